@@ -1,0 +1,4 @@
+pub mod FlagWords
+pub mod Text
+pub mod Passing
+pub mod Picking
