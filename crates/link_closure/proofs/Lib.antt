@@ -1,0 +1,4 @@
+pub mod Waiting
+pub mod Turn
+pub mod Least
+pub mod Rows
