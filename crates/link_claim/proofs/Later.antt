@@ -1,0 +1,73 @@
+-- Views that only grow.
+use Rattle.std.proofs.Common.{◌≡◌, ℕ, Bool, true, false, Contains, sym, refl, ◌∙◌, subst}
+use Rattle.std.specs.Prelude.{MatchBool}
+use Rattle.std.specs.Bool.{OnTrue}
+use Rattle.link_claim.specs.declared.state.Mark.{Mark}
+use Rattle.link_claim.specs.declared.view.View.{View}
+use Rattle.link_claim.specs.Views.{with_file, with_claim, with_item, with_begin, with_mark, joined}
+use Rattle.link_claim.specs.Later.{IsLater, HasRead}
+use Rattle.link_claim.specs.Workload.{Requests, Marks}
+use Rattle.link_claim.proofs.Joins.{contains_here, contains_later, contains_left, contains_right}
+
+-- a view is no earlier than itself
+pub later_self : (v : View) → IsLater v v
+later_self v = record { same = refl; known = λ f h. h; items = λ i h. h; marks = λ m h. h }
+
+-- what is later than a later view is later
+pub later_then : {v u x : View} → IsLater v u → IsLater u x → IsLater v x
+later_then a b = record { same = b.same ∙ a.same; known = λ f h. b.known f (a.known f h); items = λ i h. b.items i (a.items i h); marks = λ m h. b.marks m (a.marks m h) }
+
+-- each new view of a call is later
+file_later : (f : ℕ) (v : View) → IsLater v (with_file f v)
+file_later f v = record { same = refl; known = λ g h. contains_later f g v.known h; items = λ i h. h; marks = λ m h. h }
+
+-- with a claim
+claim_later : (f : ℕ) (v : View) → IsLater v (with_claim f v)
+claim_later f v = record { same = refl; known = λ g h. contains_later f g v.known h; items = λ i h. h; marks = λ m h. h }
+
+-- with a known item
+item_later : (i : ℕ) (v : View) → IsLater v (with_item i v)
+item_later i v = record { same = refl; known = λ f h. h; items = λ j h. contains_later i j v.known_items h; marks = λ m h. h }
+
+-- with a begin
+begin_later : (i : ℕ) (v : View) → IsLater v (with_begin i v)
+begin_later i v = record { same = refl; known = λ f h. h; items = λ j h. contains_later i j v.known_items h; marks = λ m h. h }
+
+-- with a mark
+mark_later : (m : Mark) (v : View) → IsLater v (with_mark m v)
+mark_later m v = record { same = refl; known = λ f h. h; items = λ i h. h; marks = λ k h. contains_later m k v.marks h }
+
+-- what each call comes to
+pub after_request : (b : Bool) (f : ℕ) (v u : View) → MatchBool b (u ≡ with_claim f v) (u ≡ with_file f v) → IsLater v u × Contains u.known f
+after_request true f v u e = subst (λ (z : View). IsLater v z × Contains z.known f) (sym e) (claim_later f v, contains_here f v.known)
+after_request false f v u e = subst (λ (z : View). IsLater v z × Contains z.known f) (sym e) (file_later f v, contains_here f v.known)
+
+-- after a check
+pub after_check : (b : Bool) (f : ℕ) (v u : View) → MatchBool b (u ≡ with_file f v) ((u ≡ v) × ¬ Contains v.known f) → IsLater v u × OnTrue b (Contains u.known f)
+after_check true f v u e = subst (λ (z : View). IsLater v z × Contains z.known f) (sym e) (file_later f v, contains_here f v.known)
+after_check false f v u e = (subst (IsLater v) (sym e.0) (later_self v), tt)
+
+-- after a begin
+pub after_begin : (b : Bool) (i : ℕ) (v u : View) → MatchBool b (u ≡ with_begin i v) (u ≡ with_item i v) → IsLater v u × Contains u.known_items i
+after_begin true i v u e = subst (λ (z : View). IsLater v z × Contains z.known_items i) (sym e) (begin_later i v, contains_here i v.known_items)
+after_begin false i v u e = subst (λ (z : View). IsLater v z × Contains z.known_items i) (sym e) (item_later i v, contains_here i v.known_items)
+
+-- after a mark
+pub after_mark : (m : Mark) (v u : View) → u ≡ with_mark m v → IsLater v u × Contains u.marks m
+after_mark m v u e = subst (λ (z : View). IsLater v z × Contains z.marks m) (sym e) (mark_later m v, contains_here m v.marks)
+
+-- a joined view is later than the one that took the other back
+pub joined_left : (v u : View) → IsLater v (joined v u)
+joined_left v u = record { same = refl; known = λ f h. contains_left f v.known u.known h; items = λ i h. contains_left i v.known_items u.known_items h; marks = λ m h. contains_left m v.marks u.marks h }
+
+-- and than the other, where both name one work
+pub joined_right : (v u : View) → u.work ≡ v.work → IsLater u (joined v u)
+joined_right v u same = record { same = sym same; known = λ f h. contains_right f v.known u.known h; items = λ i h. contains_right i v.known_items u.known_items h; marks = λ m h. contains_right m v.marks u.marks h }
+
+-- what has been read stays read
+pub read_later : (v u : View) (i : ℕ) → IsLater v u → HasRead v i → HasRead u i
+read_later v u i later read = record {
+  begun = later.items i read.begun;
+  requests = λ f asked. later.known f (read.requests f (subst (λ w. Requests w i f) later.same asked));
+  marks = λ m has. later.marks m (read.marks m (subst (λ w. Marks w i m) later.same has));
+}

@@ -1,0 +1,24 @@
+//! Claims of files, begins of work items and marks of symbols that many threads make on shared words. The words keep a
+//! rule, and the rule keeps the law of a plain core: whatever the order of the steps, once all is read the claimed files
+//! are the least closed set, and the flags have the marks of just those files.
+#![tactic(auto)]
+
+mod closed;
+mod flags;
+mod gate;
+mod law;
+mod plan;
+mod state;
+#[cfg(test)]
+mod tests;
+mod view;
+mod words;
+
+pub use closed::Closed;
+pub use flags::{AtomicFlagsRange, AtomicPerSymbolFlags, AtomicValueFlags};
+pub use gate::{Gate, OpenGate};
+pub use law::{any_interleaving, flags_only_grow, no_schedule_changes_the_end, no_store_will_do};
+pub use plan::Plan;
+pub use state::{Begun, Claimed, Core, Item, Mark, Marked, Step, Workload};
+pub use view::View;
+pub use words::{Words, WorkSeat};
