@@ -1,0 +1,70 @@
+//! A compiled glob.
+
+ghost use Rattle.std.specs.Prelude.{◌↔◌, List, IsTrue};
+ghost use Rattle.std.specs.Str.{chars};
+
+use crate::matching::tokens_match;
+
+/// The characters from `first` to `last`, both included; none where `last` is less.
+#[derive(Clone, Copy, Debug, PartialEq, Eq)]
+pub struct CharRange {
+    pub first: char,
+    pub last: char,
+}
+
+/// A class of characters: those in some range, or, where it is negated, those in none.
+#[derive(Debug, Drop)]
+pub struct Class {
+    pub negated: bool,
+    pub ranges: Vec<CharRange>,
+}
+
+/// A piece of a pattern.
+#[derive(Debug, Drop)]
+pub enum Token {
+    /// This character.
+    Literal(char),
+    /// Any one character.
+    One,
+    /// Any run of characters, the empty one too.
+    Any,
+    /// One character of the class.
+    Class(Class),
+}
+
+/// A compiled glob. Contracts see it as the list of its tokens.
+#[derive(Debug, Drop)]
+pub struct Pattern {
+    tokens: Vec<Token>,
+}
+
+impl std::marker::Model for Pattern {
+    ghost use Rattle.std.specs.Prelude.{List};
+    ghost use Rattle.link_glob.specs.Glob.{GlobToken, views};
+
+    ghost Value = { List GlobToken };
+
+    ghost view = { λ p. views p.tokens.items };
+}
+
+impl Pattern {
+    ghost use Rattle.std.specs.Prelude.{◌≡◌};
+    ghost use Rattle.link_glob.specs.Glob.{GlobMatches, does_match, views};
+
+    /// The pattern of these tokens.
+    pub(crate) fn from_tokens(tokens: Vec<Token>) -> Pattern
+        ensures { result ≡ views tokens.items }
+    {
+        Pattern { tokens }
+    }
+
+    /// Whether the pattern fits the whole name. Case counts, and `/` and `.` are characters like others.
+    ///
+    /// It takes no memory, and at most about as many steps as the name's length times the pattern's.
+    pub fn matches(&self, name: &str) -> bool
+        ensures means { IsTrue result ↔ GlobMatches self.now (chars name.now) }
+        ensures value { result ≡ does_match self.now (chars name.now) }
+    {
+        tokens_match(&self.tokens, name)
+    }
+}

@@ -1,0 +1,144 @@
+use super::*;
+use std::alloc::AllocError;
+use std::test::*;
+
+#[test]
+fn kinds_of_patterns(rt: HostRuntime) {
+    for (pattern, kind) in [
+        (b"foo".as_slice(), GlobPatternType::Exact),
+        (b"", GlobPatternType::Exact),
+        (b"foo\\*bar", GlobPatternType::EscapedExact),
+        (b"a\\", GlobPatternType::EscapedExact),
+        (b"foo]", GlobPatternType::NonStar),
+        (b"f\\?[o]", GlobPatternType::NonStar),
+        (b"a?\\*", GlobPatternType::NonStar),
+        (b"a\\*b*", GlobPatternType::Star),
+        (b"[a]*", GlobPatternType::Star),
+        (b"\\\\*", GlobPatternType::Star),
+    ] {
+        assert_eq!(rt; analyze_glob_pattern(pattern), kind, "{pattern:?}");
+    }
+}
+
+#[test]
+fn unescaped_patterns(rt: HostRuntime) -> Result<(), Fail> {
+    for (pattern, plain) in [
+        (b"foo\\*bar".as_slice(), b"foo*bar".as_slice()),
+        (b"a\\", b"a\\"),
+        (b"\\\\\\a", b"\\a"),
+        (b"", b""),
+    ] {
+        assert_eq!(rt; unescape_pattern(rt.alloc(), pattern)?.as_slice(), plain);
+    }
+    Ok(())
+}
+
+fn compile(rt: &HostRuntime, macho: bool, pattern: &[u8]) -> Result<Pattern, GlobError> {
+    if macho {
+        compile_macho_glob_pattern(rt.alloc(), pattern)
+    } else {
+        compile_glob_pattern(rt.alloc(), pattern)
+    }
+}
+
+#[test]
+fn names_that_patterns_fit(rt: HostRuntime) -> Result<(), Fail> {
+    for (macho, pattern, name, fits) in [
+        (false, "a*b".as_bytes(), "ab", true),
+        (false, b"a*b", "axyb", true),
+        (false, b"a*b", "axyc", false),
+        (false, b"a*b", "axybc", false),
+        (false, b"*ab*ab", "abab", true),
+        (false, b"*ab*ab", "ab", false),
+        (false, b"", "", true),
+        (false, b"", "a", false),
+        (false, b"a?c", "a.c", true),
+        (false, b"a?c", "ac", false),
+        (false, "\u{e4}?".as_bytes(), "\u{e4}\u{fc}", true),
+        (false, b"a", "A", false),
+        (false, b"a\\*", "a\\b", true),
+        (false, b"a\\*", "a*", false),
+        (false, b"a]b", "a]b", true),
+        (false, b"[a-cx]", "b", true),
+        (false, b"[a-cx]", "x", true),
+        (false, b"[a-cx]", "d", false),
+        (false, b"[c-a]", "b", false),
+        (false, b"[a-]", "-", true),
+        (false, b"[!a-c]", "d", true),
+        (false, b"[!a-c]", "b", false),
+        (false, b"[^a-c]", "d", true),
+        (false, b"[^a-c]", "b", false),
+        (false, b"[!]]", "]", false),
+        (false, b"[[^]", "!", true),
+        (false, b"[[^]", "^", false),
+        (false, b"a/*", "a/b/.c", true),
+        (true, b"a**b", "axyb", true),
+        (true, b"a**b", "axyc", false),
+        (true, b"***", "", true),
+        (true, b"[]*]**", "]x", true),
+        (true, b"[]*]**", "*", true),
+        (true, b"[]*]**", "x", false),
+        (true, b"[^**]", "*", false),
+    ] {
+        let Ok(compiled) = compile(&rt, macho, pattern) else {
+            return Err("a pattern did not compile".into());
+        };
+        assert_eq!(rt; compiled.matches(name), fits, "{pattern:?} at {name}");
+    }
+    Ok(())
+}
+
+#[test]
+fn refused_patterns(rt: HostRuntime) {
+    for (macho, pattern, fault) in [
+        (false, b"a**b".as_slice(), GlobError::InvalidGlob),
+        (false, b"a[", GlobError::InvalidGlob),
+        (false, b"[]", GlobError::InvalidGlob),
+        (false, b"[!]", GlobError::InvalidGlob),
+        (false, b"a\xff", GlobError::InvalidUtf8),
+        (true, b"**[]", GlobError::InvalidGlob),
+        (true, b"\xc3*", GlobError::InvalidUtf8),
+    ] {
+        assert!(rt;
+            matches!(compile(&rt, macho, pattern), Err(e) if e == fault),
+            "{pattern:?}"
+        );
+    }
+}
+
+fn repeated(rt: &HostRuntime, piece: &[u8], n: usize, last: &[u8]) -> Result<Vec<u8>, AllocError> {
+    let mut bytes = Vec::new(rt.alloc());
+    for _ in 0..n {
+        bytes.extend_from_slice(piece)?;
+    }
+    bytes.extend_from_slice(last)?;
+    Ok(bytes)
+}
+
+// A body that tried every length for every star would not end here.
+#[test]
+fn fifty_stars_end_at_once(rt: HostRuntime) -> Result<(), Fail> {
+    let name = repeated(&rt, b"a", 10_000, b"")?;
+    let name = str::from_utf8(&name).map_err(|_| "not UTF-8")?;
+    for (last, fits) in [(b"a".as_slice(), true), (b"b", false), (b"*", true)] {
+        let pattern = repeated(&rt, b"*a", 50, last)?;
+        let compiled = compile(&rt, false, &pattern).map_err(|_| "fifty stars")?;
+        assert_eq!(rt; compiled.matches(name), fits);
+    }
+    Ok(())
+}
+
+#[test]
+fn texts_of_refusals(rt: HostRuntime) -> Result<(), Fail> {
+    for (fault, text) in [
+        (GlobError::InvalidUtf8, "the pattern is not UTF-8"),
+        (
+            GlobError::InvalidGlob,
+            "the pattern has an unclosed class or adjacent stars",
+        ),
+        (GlobError::Memory, "out of memory"),
+    ] {
+        assert_eq!(rt; format!(in rt.alloc(); "{fault}")?.as_str(), text);
+    }
+    Ok(())
+}
