@@ -1,0 +1,121 @@
+//! Which version a name belongs to.
+
+ghost use Rattle.std.specs.Prelude.{◌≡◌, ◌<◌, List, length, zero, IfSome};
+ghost use Rattle.link_script.specs.declared.named.RawVersion.{RawVersion};
+ghost use Rattle.link_script.specs.Filter.{AreVersions};
+ghost use Rattle.link_script.specs.Lookup.{seen, asked};
+ghost use Rattle.link_script.specs.Rank.{IsBest, filters_of, filters_in};
+ghost use Rattle.link_script.specs.Rules.{plain_fits, cxx_fits, side_in, first_in, last_in, best_match};
+
+use crate::body::Side;
+use crate::lookup::{Demangler, Lookup, look_up};
+use crate::rules::{Class, MatchRules, Version};
+
+pub fn plain_fits(rules: &MatchRules, class: Class, name: &Lookup) -> bool
+    ensures { result ≡ plain_fits rules.now class (seen name.now) }
+{
+    rules.general.fits(class, name, false)
+}
+
+pub fn cxx_fits(rules: &MatchRules, class: Class, name: &Lookup) -> bool
+    ensures { result ≡ cxx_fits rules.now class (seen name.now) }
+{
+    rules.cxx.fits(class, name, true)
+}
+
+/// The section of the strongest match of a class in a version.
+fn side_in(class: Class, version: &Version, name: &Lookup) -> Option<Side>
+    ensures { result ≡ side_in class version.now (seen name.now) }
+{
+    if matches!(class, Class::Exact) {
+        if plain_fits(&version.version_body.globals, class, name) {
+            return Some(Side::Global);
+        }
+        if plain_fits(&version.version_body.locals, class, name) {
+            return Some(Side::Local);
+        }
+        if cxx_fits(&version.version_body.globals, class, name) {
+            return Some(Side::Global);
+        }
+        if cxx_fits(&version.version_body.locals, class, name) {
+            return Some(Side::Local);
+        }
+        return None;
+    }
+    if plain_fits(&version.version_body.globals, class, name) {
+        return Some(Side::Global);
+    }
+    if cxx_fits(&version.version_body.globals, class, name) {
+        return Some(Side::Global);
+    }
+    if plain_fits(&version.version_body.locals, class, name) {
+        return Some(Side::Local);
+    }
+    if cxx_fits(&version.version_body.locals, class, name) {
+        return Some(Side::Local);
+    }
+    None
+}
+
+/// The first version with a match of the class.
+fn first_in(class: Class, versions: &[Version], name: &Lookup) -> Option<(usize, Side)>
+    ensures value { result ≡ first_in class (seen name.now) zero versions.now }
+    ensures within { IfSome result (λ x. x.0 < length versions.now) }
+{
+    let mut at = 0;
+    for version in versions {
+        if let Some(side) = side_in(class, version, name) {
+            return Some((at, side));
+        }
+        at += 1;
+    }
+    None
+}
+
+/// The last version with a match of the class.
+fn last_in(class: Class, versions: &[Version], name: &Lookup) -> Option<(usize, Side)>
+    ensures value { result ≡ last_in class (seen name.now) versions.now (length versions.now) }
+    ensures within { IfSome result (λ x. x.0 < length versions.now) }
+{
+    let mut n = versions.len();
+    'back: while n > 0 {
+        n -= 1;
+        if let Some(side) = side_in(class, &versions[n], name) {
+            return Some((n, side));
+        }
+    }
+    None
+}
+
+#[tactic(auto, unfolding(crate::specs::Rules::best_match))]
+fn best_match(versions: &[Version], name: &Lookup) -> Option<(usize, Side)>
+    ensures value { result ≡ best_match versions.now (seen name.now) }
+    ensures within { IfSome result (λ x. x.0 < length versions.now) }
+{
+    if let Some(found) = first_in(Class::Exact, versions, name) {
+        return Some(found);
+    }
+    if let Some(found) = last_in(Class::Nonstar, versions, name) {
+        return Some(found);
+    }
+    if let Some(found) = last_in(Class::Star, versions, name) {
+        return Some(found);
+    }
+    last_in(Class::Every, versions, name)
+}
+
+/// The strongest match of a name: its version and section.
+pub fn find_match<D: Demangler>(
+    versions: &[Version],
+    name: &[u8],
+    demangler: &D,
+) -> Option<(usize, Side)>
+    // No other match comes before it, over all versions and all their filters.
+    ensures best { IsBest (filters_of versions.now) (asked (D.demangled demangler.now) name.now) result }
+    // The same over the filters of the text that the versions were read from.
+    ensures of_text { (raws : List RawVersion) → AreVersions raws versions.now → IsBest (filters_in raws) (asked (D.demangled demangler.now) name.now) result }
+    ensures value { result ≡ best_match versions.now (asked (D.demangled demangler.now) name.now) }
+    ensures within { IfSome result (λ x. x.0 < length versions.now) }
+{
+    best_match(versions, &look_up(name, demangler))
+}

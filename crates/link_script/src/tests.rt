@@ -1,0 +1,369 @@
+ghost use Rattle.std.specs.Prelude.{◌≤◌, length};
+
+use super::*;
+use std::alloc::Global;
+use std::test::*;
+
+/// The text of the fault, `read` where there is none, `memory` where memory ran out.
+fn outcome(alloc: Global, text: &[u8]) -> Result<String, Fail> {
+    match VersionScript::parse(alloc, text) {
+        Ok(_) => Ok(format!(in alloc; "read")?),
+        Err(ScriptFault::Memory) => Ok(format!(in alloc; "memory")?),
+        Err(ScriptFault::Text(error)) => Ok(format!(in alloc; "{error}")?),
+    }
+}
+
+/// `front` and then so many times `piece`.
+fn repeated(alloc: Global, front: &[u8], piece: &[u8], times: usize) -> Result<Vec<u8>, Fail> {
+    let mut text = front.to_vec(alloc)?;
+    for _ in 0..times {
+        text.extend_from_slice(piece)?;
+    }
+    Ok(text)
+}
+
+fn script(alloc: Global, text: &[u8]) -> Result<VersionScript, Fail> {
+    Ok(
+        VersionScript::parse(alloc, text)
+            .ok()
+            .ok_or("a version script")?,
+    )
+}
+
+/// Whether the script refuses this version of the symbol, and names both.
+fn is_refused<'a>(script: &VersionScript, name: &'a [u8], version: &'a [u8]) -> bool {
+    match script.version_for_symbol(name, Some(version), &Plain) {
+        Ok(_) => false,
+        Err(undefined) => undefined.name == name && undefined.version == version,
+    }
+}
+
+/// How many names a script of the Rust form lists.
+fn listed(script: &VersionScript) -> Option<usize> {
+    match script {
+        VersionScript::Rust(script) => Some(script.global.len()),
+        VersionScript::Regular(_) => None,
+    }
+}
+
+/// Whether the name is local, by a script of versions.
+fn is_local(script: &VersionScript, name: &[u8]) -> bool {
+    match script {
+        VersionScript::Rust(_) => false,
+        VersionScript::Regular(versions) => versions.is_local(name, &Plain),
+    }
+}
+
+/// How many versions a script of versions lends.
+fn lent(script: &VersionScript) -> usize {
+    match script {
+        VersionScript::Rust(_) => 0,
+        VersionScript::Regular(versions) => versions.version_iter().len(),
+    }
+}
+
+/// Whether the entry is this one name.
+fn is_name(entry: &ParsedSymbolMatcher, name: &[u8]) -> bool {
+    match entry {
+        ParsedSymbolMatcher::Single(SymbolMatcher::Exact(found)) => found.is(name),
+        _ => false,
+    }
+}
+
+/// How many patterns a block of C++ has.
+fn cxx_count(entry: &ParsedSymbolMatcher) -> Option<usize> {
+    match entry {
+        ParsedSymbolMatcher::CxxMatchers(matchers) => Some(matchers.len()),
+        _ => None,
+    }
+}
+
+fn entry(alloc: Global, text: &[u8], at: usize) -> Result<(ParsedSymbolMatcher, usize), Fail>
+    requires { at ≤ length text.now }
+{
+    Ok(parse_matcher(alloc, text, at).ok().ok_or("an entry")?)
+}
+
+/// Answers one name for every name.
+struct Constant;
+
+impl Demangler for Constant {
+    ghost use Rattle.std.specs.Prelude.{codes};
+
+    ghost demangled = { λ _ _. codes "shown" };
+
+    fn demangle<'a>(&'a self, _name: &'a str) -> &'a str {
+        "shown"
+    }
+}
+
+#[test]
+fn first_fault_and_its_place(rt: HostRuntime) -> Result<(), Fail> {
+    let alloc = rt.alloc();
+    let cases: [(&[u8], &str); 38] = [
+        (b"", "read"),
+        (b"# only a comment", "read"),
+        (b" \t\r\n/* a */ # b\n", "read"),
+        (b"{ global: foo; local: *; };", "read"),
+        (b"{ global: foo; local: * };", "Syntax error at 26"),
+        (b"{ a; }", "Syntax error at 6"),
+        (b"{ a; }; x", "Syntax error at 8"),
+        (b"{ ; };", "Syntax error at 2"),
+        (b"{ a", "Syntax error at 2"),
+        (b"{", "Syntax error at 1"),
+        (b"{};", "read"),
+        (b"V1 {\r\n\ta;\r\n};\r\n", "read"),
+        (b"V1{a;};V2{b;}V1;", "read"),
+        (b"V1 { a; }", "Syntax error at 9"),
+        (b"V1", "Syntax error at 2"),
+        (b"V1 ;", "Syntax error at 3"),
+        (b"(", "Syntax error at 0"),
+        (b"}", "Syntax error at 0"),
+        (b"V1 { a; } V0;", "Unknown parent version at 10"),
+        (b"V1 { a; } V1;", "Unknown parent version at 10"),
+        (b"V1 { a; }; V2 { b; } V1 ;", "Unknown parent version at 21"),
+        (b"/* open", "Syntax error at 0"),
+        (b"/*/", "Syntax error at 0"),
+        (b"{ a; /* open *", "Syntax error at 5"),
+        (b"V1 /*", "Syntax error at 3"),
+        (b"V1 { a; }; # c\n/* open", "Syntax error at 15"),
+        (b"{ \xff*; };", "Invalid utf-8 string at 2"),
+        (b"{ \xff; };", "read"),
+        (b"{ x; a[; };", "Invalid glob pattern at 5"),
+        (b"{ x; a**; };", "Invalid glob pattern at 5"),
+        (b"{ extern \"C\" { foo", "Syntax error at 15"),
+        (b"{ extern \"C\" { /* }; };", "Syntax error at 15"),
+        (b"{ extern \"C\" x", "Syntax error at 13"),
+        (
+            b"{ extern \"C\" { extern \"C++\" { x; }; }; };",
+            "Unexpected extern \"C++\" in parsing at 15",
+        ),
+        (
+            b"{ extern \"C++\" { x; extern \"C\" { y; }; }; };",
+            "Unexpected extern \"C\" in parsing at 20",
+        ),
+        (
+            b"{ extern \"C\" { extern \"Java\" \t{ x; }; }; };",
+            "Unsupported extern \"\"Java\"\" at 15",
+        ),
+        (b"{ extern Java  ", "Unsupported extern \"Java\" at 9"),
+        (
+            b"{ extern \xff{ x; }; };",
+            "Unsupported extern \"INVALID UTF-8([255])\" at 9",
+        ),
+    ];
+    for (text, expected) in cases {
+        assert_eq!(rt; outcome(alloc, text)?.as_str(), expected);
+    }
+    Ok(())
+}
+
+#[test]
+fn long_texts(rt: HostRuntime) -> Result<(), Fail> {
+    let alloc = rt.alloc();
+    let nested = repeated(alloc, b"{ ", b"extern \"C\" { ", 100_000)?;
+    assert_eq!(rt;
+        outcome(alloc, nested.as_slice())?.as_str(),
+        "Unexpected extern \"C\" in parsing at 15"
+    );
+    let at_top = repeated(alloc, b"", b"extern \"C\" { ", 100_000)?;
+    assert_eq!(rt;
+        outcome(alloc, at_top.as_slice())?.as_str(),
+        "Syntax error at 7"
+    );
+    let most = repeated(alloc, b"", b"V{};", 32_766)?;
+    assert_eq!(rt; script(alloc, most.as_slice())?.version_count(), 32_767);
+    let more = repeated(alloc, b"", b"V{};", 32_767)?;
+    assert_eq!(rt;
+        outcome(alloc, more.as_slice())?.as_str(),
+        "Too many versions at 131064"
+    );
+    Ok(())
+}
+
+#[test]
+fn versions_of_names(rt: HostRuntime) -> Result<(), Fail> {
+    let alloc = rt.alloc();
+    let cases: [(&[u8], &[u8], Option<u16>); 27] = [
+        (
+            b"VERS_1 { global: foo; local: *; }; VERS_2 { global: f?o; foo; } VERS_1;",
+            b"foo",
+            Some(2),
+        ),
+        (
+            b"VERS_1 { global: foo; local: *; }; VERS_2 { global: f?o; foo; } VERS_1;",
+            b"fzo",
+            Some(3),
+        ),
+        (
+            b"VERS_1 { global: foo; local: *; }; VERS_2 { global: f?o; foo; } VERS_1;",
+            b"other",
+            Some(2),
+        ),
+        (b"# c\nV1 { a; # d\n};\n", b"a", Some(2)),
+        (b"", b"a", None),
+        (b"{ a; };", b"a", None),
+        (b"V1 { b; };", b"a", None),
+        // The first version of an exact name, and the last one of a glob.
+        (b"A { x; }; B { x; };", b"x", Some(2)),
+        (b"A { x?; }; B { x?; };", b"xy", Some(3)),
+        (b"A { x*; }; B { x*; };", b"xy", Some(3)),
+        (b"A { *; }; B { *; };", b"xy", Some(3)),
+        // An exact name before a glob without a star, that before one with a star, and that before a bare star.
+        (b"A { x?; }; B { xy; }; C { x?; };", b"xy", Some(3)),
+        (b"A { x?; }; B { x*; };", b"xy", Some(2)),
+        (b"A { x*; }; B { *; };", b"xy", Some(2)),
+        // Backslashes and quotes.
+        (b"A { x\\*y; };", b"x*y", Some(2)),
+        (b"A { \"x*\"; };", b"x*", Some(2)),
+        (b"A { \"x*\"; };", b"xy", None),
+        (b"A { \"*\"; };", b"xy", None),
+        // A token ends at its `;`, without the blanks in front of it, or at the first `}` of a block.
+        (b"A { x \t; };", b"x", Some(2)),
+        (b"A { x # c\n; };", b"x", None),
+        (b"A { extern \"C\" { x; y }; z; };", b"y", Some(2)),
+        (b"A { extern \"C\" { x; y }; z; };", b"z", Some(2)),
+        (b"A { global: x; local: y; global: z; };", b"z", Some(2)),
+        // Names that are not UTF-8.
+        (b"A { \xff\xfe; };", b"\xff\xfe", Some(2)),
+        (b"A { ?; ??; \xc3\xa9*; };", b"\xff\xfe", None),
+        (b"A { *; };", b"\xff\xfe", Some(2)),
+        (b"A { extern \"C++\" { *; }; };", b"\xff\xfe", Some(2)),
+    ];
+    for (text, name, expected) in cases {
+        let script = script(alloc, text)?;
+        assert!(rt;
+            matches!(script.version_for_symbol(name, None, &Plain), Ok(found) if found == expected)
+        );
+    }
+    Ok(())
+}
+
+#[test]
+fn explicit_versions_and_counts(rt: HostRuntime) -> Result<(), Fail> {
+    let alloc = rt.alloc();
+    let text =
+        b"VERS_1 { global: foo; local: *; }; VERS_2 { global: f?o; foo; } VERS_1; VERS_1 { };";
+    let script = script(alloc, text)?;
+    assert_eq!(rt; script.version_count(), 4);
+    assert_eq!(rt; script.parent_count(), 1);
+    let cases: [(&[u8], Option<u16>); 3] = [
+        (b"", Some(1)),
+        (b"VERS_2", Some(3)),
+        (b"VERS_1", Some(4)),
+    ];
+    for (version, expected) in cases {
+        assert!(rt;
+            matches!(
+                script.version_for_symbol(b"foo", Some(version), &Plain),
+                Ok(found) if found == expected
+            )
+        );
+    }
+    assert!(rt; is_refused(&script, b"foo", b"X"));
+    assert!(rt; is_local(&script, b"other"));
+    assert!(rt; !is_local(&script, b"foo"));
+    assert_eq!(rt; lent(&script), 4);
+    let empty = VersionScript::empty(alloc);
+    assert_eq!(rt; empty.version_count(), 0);
+    assert_eq!(rt; empty.parent_count(), 0);
+    assert!(rt; !empty.is_rust());
+    assert!(rt;
+        empty
+            .version_for_symbol(b"foo", Some(b"X".as_slice()), &Plain)
+            .is_err()
+    );
+    Ok(())
+}
+
+#[test]
+fn names_of_cxx_are_seen_demangled(rt: HostRuntime) -> Result<(), Fail> {
+    let alloc = rt.alloc();
+    let script = script(
+        alloc,
+        b"A { extern \"C++\" { shown; }; }; B { local: foo; };",
+    )?;
+    assert!(rt; matches!(script.version_for_symbol(b"foo", None, &Plain), Ok(Some(3))));
+    assert!(rt;
+        matches!(
+            script.version_for_symbol(b"foo", None, &Constant),
+            Ok(Some(2))
+        )
+    );
+    assert!(rt;
+        matches!(
+            script.version_for_symbol(b"foo", None, &&Constant),
+            Ok(Some(2))
+        )
+    );
+    assert!(rt;
+        matches!(
+            script.version_for_symbol(b"\xff", None, &Constant),
+            Ok(None)
+        )
+    );
+    let mut rules = BasicMatchRules::new(alloc);
+    rules.push(SymbolMatcher::Exact(link_ids::Name::from_slice(alloc, b"shown")?))?;
+    assert!(rt; rules.matches_exact(b"foo", true, &Constant));
+    assert!(rt; !rules.matches_exact(b"foo", false, &Constant));
+    assert!(rt; !rules.matches_glob(b"shown", true, false, &Plain));
+    assert!(rt; !rules.matches_all());
+    rules.push(SymbolMatcher::MatchesAll)?;
+    assert!(rt; rules.matches_all());
+    Ok(())
+}
+
+#[test]
+fn the_rust_form(rt: HostRuntime) -> Result<(), Fail> {
+    let alloc = rt.alloc();
+    let cases: [(&[u8], Option<usize>); 12] = [
+        (b"{ global: foo; \"b*r\"; local: *; };", Some(2)),
+        (b"{ local: *; };", Some(0)),
+        (b"{ local: x; *; global: foo; };", Some(1)),
+        (b"{ global: foo; };", None),
+        (b"{ global: fo?; local: *; };", None),
+        (b"{ global: f\\oo; local: *; };", None),
+        (b"{ global: *; local: *; };", None),
+        (b"{ global: extern \"C\" { foo; }; local: *; };", None),
+        (b"{ global: extern \"C\" { }; local: *; };", None),
+        (b"{ global: foo; local: extern \"C\" { *; }; };", None),
+        (b"{ global: foo; local: \"*\"; };", None),
+        (b"V1 { global: foo; local: *; };", None),
+    ];
+    for (text, expected) in cases {
+        let script = script(alloc, text)?;
+        assert_eq!(rt; script.is_rust(), expected.is_some());
+        assert_eq!(rt; listed(&script), expected);
+    }
+    let rust = script(alloc, b"{ global: foo; local: *; };")?;
+    assert_eq!(rt; rust.version_count(), 0);
+    assert_eq!(rt; rust.parent_count(), 0);
+    assert!(rt;
+        matches!(
+            rust.version_for_symbol(b"foo", Some(b"X".as_slice()), &Plain),
+            Ok(None)
+        )
+    );
+    Ok(())
+}
+
+#[test]
+fn entries_at_a_place(rt: HostRuntime) -> Result<(), Fail> {
+    let alloc = rt.alloc();
+    let (plain, behind) = entry(alloc, b"x; a b ; rest", 3)?;
+    assert!(rt; is_name(&plain, b"a b"));
+    assert_eq!(rt; behind, 8);
+    let (block, behind) = entry(alloc, b"extern \"C++\" { x; y; }; # c\nz", 0)?;
+    assert_eq!(rt; cxx_count(&block), Some(2));
+    assert_eq!(rt; behind, 28);
+    assert!(rt;
+        matches!(
+            parse_matcher(alloc, b"x; y", 3),
+            Err(ScriptFault::Text(ScriptError {
+                at: 3,
+                kind: ScriptErrorKind::Syntax
+            }))
+        )
+    );
+    Ok(())
+}
