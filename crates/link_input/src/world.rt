@@ -1,0 +1,46 @@
+// The files of a link, and all that goes with them.
+use crate::internal_symbols::InternalSymDefInfo;
+use crate::object::ParsedInputObject;
+use crate::options::Options;
+use link_ids::{Name, Seq};
+
+/// A linker script, of which its entry, its version script and its symbols are kept.
+#[derive(Debug, Drop)]
+pub struct ProcessedLinkerScript {
+    pub input: Name,
+    pub entry: Option<Name>,
+    /// The text of its `VERSION` command.
+    pub version: Option<Name>,
+    pub symbol_defs: Seq<InternalSymDefInfo>,
+}
+
+/// A stub library (Mach-O `.tbd`): the names that a shared library will define.
+#[derive(Debug, Drop)]
+pub struct StubLibrary {
+    pub input: Name,
+    pub strong: Seq<Name>,
+    pub weak: Seq<Name>,
+}
+
+/// The files of a link, each kind in the order of the command line.
+#[derive(Debug, Drop)]
+pub struct Inputs {
+    pub objects: Seq<ParsedInputObject>,
+    pub scripts: Seq<ProcessedLinkerScript>,
+    pub stubs: Seq<StubLibrary>,
+}
+
+/// The texts of the version script and of the export list.
+#[derive(Debug, Drop)]
+pub struct Scripts {
+    pub version_script: Option<Name>,
+    pub export_list: Option<Name>,
+}
+
+/// All that a link is given.
+#[derive(Debug, Drop)]
+pub struct World {
+    pub inputs: Inputs,
+    pub options: Options,
+    pub scripts: Scripts,
+}
