@@ -1,0 +1,2 @@
+pub mod SortedOnce
+pub mod OneAnswer

@@ -1,0 +1,11 @@
+pub mod Places
+pub mod World
+pub mod Lists
+pub mod Loading
+pub mod Rivals
+pub mod Undefined
+pub mod Table
+pub mod Flags
+pub mod Answer
+pub mod Report
+pub mod Examples
