@@ -1,0 +1,158 @@
+// The answer, once it is known which objects are loaded.
+ghost use Rattle.std.specs.Prelude.{◌≡◌, ◌++◌, ◌==◌, ◌&&◌, ℕ, ◌<◌, ◌^◌, List, Bool, Option, map, length, IfOk, OnOk};
+ghost use Rattle.std.specs.Option.{option_to_list};
+ghost use Rattle.link_closure.specs.Closure.{is_marked};
+ghost use Rattle.link_core.specs.Found.{found, is_left_with};
+ghost use Rattle.link_core.specs.Steps.{flags_from};
+ghost use Rattle.link_rules.specs.Places.{each_from, some_from, is_number};
+ghost use Rattle.link_rules.specs.Loading.{target};
+ghost use Rattle.link_rules.specs.Undefined.{canonical_undefined, is_canonical};
+ghost use Rattle.link_rules.specs.Table.{table_of, definition};
+ghost use Rattle.link_rules.specs.Answer.{loaded_object, linked_symbol, undefined_name, some_if};
+
+use crate::flags::{final_flags, referenced_symbols};
+use crate::names::is_left;
+use crate::table::definition;
+use link_ids::{Name, SymbolId};
+use link_input::ParsedInputObject;
+use link_rules::{LinkedSymbol, LoadedObject, Symbol, UndefinedName};
+use std::alloc::{AllocError, Global};
+use std::collections::HashMap;
+
+/// The loaded objects, in their order.
+pub fn loaded_objects(
+    alloc: Global,
+    objects: &[ParsedInputObject],
+    loaded: &[bool],
+) -> Result<Vec<LoadedObject>, AllocError>
+    requires { length loaded.now ≡ length objects.now }
+    ensures { IfOk result (λ found. found.items ≡ some_from (loaded_object loaded.now) 0 objects.now) }
+{
+    let mut found = Vec::new(alloc);
+    for (i, object) in objects.iter().enumerate() {
+        if loaded[i] {
+            found.push(LoadedObject {
+                object: i,
+                name: Name::from_slice(alloc, object.input.as_slice())?,
+            })?;
+        }
+    }
+    Ok(found)
+}
+
+/// The last undefined reference to each name, a mark for each symbol.
+pub fn canonical_marks<'a>(
+    alloc: Global,
+    symbols: &'a [Symbol],
+    targets: &[Option<u32>],
+    loaded: &[bool],
+    canonical: &HashMap<&'a [u8], u32>,
+) -> Result<Vec<bool>, AllocError>
+    requires fits { length symbols.now < 2 ^ 32 }
+    requires targets { targets.now ≡ map (target symbols.now) symbols.now }
+    requires canonical { (name : List ℕ) → found canonical.now name ≡ canonical_undefined symbols.now loaded.now name }
+    ensures { IfOk result (λ marks. marks.items ≡ each_from (is_canonical symbols.now loaded.now) 0 symbols.now) }
+{
+    let mut marks = Vec::with_capacity(alloc, symbols.len())?;
+    for (i, symbol) in symbols.iter().enumerate() {
+        marks.push(is_canonical(canonical, loaded, targets[i], i as u32, symbol))?;
+    }
+    Ok(marks)
+}
+
+fn is_canonical<'a>(
+    canonical: &HashMap<&'a [u8], u32>,
+    loaded: &[bool],
+    target: Option<u32>,
+    id: u32,
+    symbol: &'a Symbol,
+) -> bool
+    ensures { result ≡ (is_left_with loaded.now symbol.now target && is_number (found canonical.now symbol.now.name) id) }
+{
+    is_left(loaded, symbol, target)
+        && is_number(canonical.get(&symbol.name.as_slice()).copied(), id)
+}
+
+fn is_number(known: Option<u32>, id: u32) -> bool
+    ensures { result ≡ is_number known id }
+{
+    match known {
+        None => false,
+        Some(known) => known == id,
+    }
+}
+
+/// Each symbol, with what it means and its flags.
+pub fn linked_symbols(
+    alloc: Global,
+    symbols: &[Symbol],
+    targets: &[Option<u32>],
+    loaded: &[bool],
+    table: &[u32],
+    canonical: &[bool],
+) -> Result<Vec<LinkedSymbol>, AllocError>
+    requires targets { targets.now ≡ map (target symbols.now) symbols.now }
+    requires canonical { canonical.now ≡ each_from (is_canonical symbols.now loaded.now) 0 symbols.now }
+    ensures { IfOk result (λ linked. linked.items ≡ each_from (linked_symbol symbols.now loaded.now table.now) 0 symbols.now) }
+{
+    let referenced = referenced_symbols(alloc, symbols, targets, loaded)?;
+    let mut linked = Vec::with_capacity(alloc, symbols.len())?;
+    for (i, symbol) in symbols.iter().enumerate() {
+        let flags = final_flags(symbol, is_set(&referenced, i), is_set(canonical, i));
+        linked.push(LinkedSymbol {
+            name: Name::from_slice(alloc, symbol.name.as_slice())?,
+            definition: SymbolId::from_usize(definition(table, i) as usize),
+            flags,
+        })?;
+    }
+    Ok(linked)
+}
+
+fn is_set(marks: &[bool], at: usize) -> bool
+    ensures { result ≡ is_marked marks.now at }
+{
+    marks.get(at).copied().unwrap_or(false)
+}
+
+/// The names that nothing defines, in the order of the references that stand for them.
+pub fn undefined_names(
+    alloc: Global,
+    symbols: &[Symbol],
+    loaded: &[bool],
+    canonical: &[bool],
+) -> Result<Vec<UndefinedName>, AllocError>
+    requires fits { length symbols.now < 2 ^ 32 }
+    requires canonical { canonical.now ≡ each_from (is_canonical symbols.now loaded.now) 0 symbols.now }
+    ensures { IfOk result (λ names. names.items ≡ some_from (undefined_name symbols.now loaded.now) 0 symbols.now) }
+{
+    let _loaded = loaded.len();
+    let mut names = Vec::new(alloc);
+    for (i, symbol) in symbols.iter().enumerate() {
+        push_undefined(
+            alloc,
+            &mut names,
+            is_set(canonical, i),
+            SymbolId::from_usize(i),
+            symbol,
+        )?;
+    }
+    Ok(names)
+}
+
+fn push_undefined(
+    alloc: Global,
+    names: &mut Vec<UndefinedName>,
+    is_canonical: bool,
+    id: SymbolId,
+    symbol: &Symbol,
+) -> Result<(), AllocError>
+    ensures { OnOk result (names.new.items ≡ names.old.items ++ option_to_list (some_if is_canonical (record { symbol = id; name = symbol.now.name }))) }
+{
+    if is_canonical {
+        names.push(UndefinedName {
+            symbol: id,
+            name: Name::from_slice(alloc, symbol.name.as_slice())?,
+        })?;
+    }
+    Ok(())
+}

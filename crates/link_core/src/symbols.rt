@@ -1,0 +1,78 @@
+// The symbols of all files, one after another.
+ghost use Rattle.std.specs.Prelude.{◌≡◌, ◌++◌, ◌<◌, ◌^◌, map, length, IfOk, OnOk};
+ghost use Rattle.link_rules.specs.World.{undefined_symbol, symbol_of, symbols_of, is_definition, is_reference};
+ghost use Rattle.link_rules.specs.Lists.{is_listed};
+
+use link_ids::Name;
+use link_input::{ParsedInputObject, Place, SymbolBinding, SymbolEntry};
+use link_rules::Symbol;
+use std::alloc::{AllocError, Global};
+
+/// It stands for a place of its own.
+pub fn is_definition(symbol: &Symbol) -> bool
+    ensures { result ≡ is_definition symbol.now }
+{
+    symbol.place != Place::Undefined
+}
+
+/// It asks for a definition of its name.
+pub fn is_reference(symbol: &Symbol) -> bool
+    ensures { result ≡ is_reference symbol.now }
+{
+    symbol.place == Place::Undefined && symbol.binding != SymbolBinding::Local
+}
+
+/// Other files find it by its name.
+pub fn is_listed(symbol: &Symbol) -> bool
+    ensures { result ≡ is_listed symbol.now }
+{
+    is_definition(symbol) && symbol.binding != SymbolBinding::Local
+}
+
+/// The symbols of all files: a symbol's id is its place here.
+pub fn symbols_of(alloc: Global, objects: &[ParsedInputObject]) -> Result<Vec<Symbol>, AllocError>
+    ensures { IfOk result (λ symbols. symbols.items ≡ symbols_of objects.now) }
+{
+    let mut symbols = Vec::new(alloc);
+    symbols.push(undefined_symbol(alloc))?;
+    for (i, object) in objects.iter().enumerate() {
+        push_symbols(alloc, &mut symbols, i, object.object.symbols.as_slice())?;
+    }
+    Ok(symbols)
+}
+
+fn undefined_symbol(alloc: Global) -> Symbol
+    ensures { result ≡ undefined_symbol }
+{
+    Symbol {
+        object: None,
+        name: Name::new(Vec::new(alloc)),
+        binding: SymbolBinding::Local,
+        place: Place::Undefined,
+    }
+}
+
+fn push_symbols(
+    alloc: Global,
+    symbols: &mut Vec<Symbol>,
+    object: usize,
+    entries: &[SymbolEntry],
+) -> Result<(), AllocError>
+    ensures { OnOk result (symbols.new.items ≡ symbols.old.items ++ map (symbol_of object) entries.now) }
+{
+    for entry in entries {
+        symbols.push(symbol_of(alloc, object, entry)?)?;
+    }
+    Ok(())
+}
+
+fn symbol_of(alloc: Global, object: usize, entry: &SymbolEntry) -> Result<Symbol, AllocError>
+    ensures { IfOk result (λ symbol. symbol ≡ symbol_of object entry.now) }
+{
+    Ok(Symbol {
+        object: Some(object),
+        name: Name::from_slice(alloc, entry.name.as_slice())?,
+        binding: entry.binding,
+        place: entry.place,
+    })
+}
