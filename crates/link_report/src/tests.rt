@@ -1,0 +1,189 @@
+// The texts themselves, and that each call succeeds with ample memory.
+use crate::{refusal_text, report_text};
+use bitflags::Flags;
+use link_ids::{Name, Seq, SymbolId, ValueFlags};
+use link_rules::{LinkError, Linked, LinkedSymbol, LoadedObject, TooManyKind, UndefinedName};
+use std::alloc::{AllocError, Global};
+use std::test::Fail;
+
+const ABSOLUTE: u32 = 0x1;
+
+const NON_INTERPOSABLE: u32 = 0x8;
+
+const DOWNGRADE_TO_LOCAL: u32 = 0x10;
+
+const HAS_NON_IR_REF: u32 = 0x1_0000;
+
+/// The answer with these loaded objects, these symbols, each with the number that it means and the
+/// bits of its flags, and these undefined names.
+fn linked(
+    alloc: Global,
+    loaded: &[(usize, &[u8])],
+    symbols: &[(&[u8], u32, u32)],
+    undefined: &[(u32, &[u8])],
+) -> Result<Linked, AllocError> {
+    let mut answer = Linked {
+        loaded: Seq::new(alloc),
+        symbols: Seq::new(alloc),
+        undefined: Seq::new(alloc),
+    };
+    for (object, name) in loaded {
+        answer.loaded.push(LoadedObject {
+            object: *object,
+            name: Name::from_slice(alloc, name)?,
+        })?;
+    }
+    for (name, definition, flags) in symbols {
+        answer.symbols.push(LinkedSymbol {
+            name: Name::from_slice(alloc, name)?,
+            definition: SymbolId::from_usize(*definition as usize),
+            flags: ValueFlags::from_bits_retain(*flags),
+        })?;
+    }
+    for (symbol, name) in undefined {
+        answer.undefined.push(UndefinedName {
+            symbol: SymbolId::from_usize(*symbol as usize),
+            name: Name::from_slice(alloc, name)?,
+        })?;
+    }
+    Ok(answer)
+}
+
+#[test]
+fn the_report_of_an_answer(rt: HostRuntime) -> Result<(), Fail> {
+    let alloc = rt.alloc();
+    // main.o refers to foo of a.o, which refers to bar of b.o; nothing asks for c.o.
+    let archive = linked(
+        alloc,
+        &[
+            (0, b"main.o".as_slice()),
+            (1, b"a.o".as_slice()),
+            (2, b"b.o".as_slice()),
+        ],
+        &[
+            (b"".as_slice(), 0, ABSOLUTE),
+            (b"".as_slice(), 0, ABSOLUTE + NON_INTERPOSABLE),
+            (b"foo".as_slice(), 4, ABSOLUTE),
+            (b"".as_slice(), 0, ABSOLUTE + NON_INTERPOSABLE),
+            (b"foo".as_slice(), 4, NON_INTERPOSABLE + HAS_NON_IR_REF),
+            (b"bar".as_slice(), 7, ABSOLUTE),
+            (b"".as_slice(), 0, ABSOLUTE + NON_INTERPOSABLE),
+            (b"bar".as_slice(), 7, NON_INTERPOSABLE + HAS_NON_IR_REF),
+            (b"".as_slice(), 0, ABSOLUTE + NON_INTERPOSABLE),
+            (b"baz".as_slice(), 9, NON_INTERPOSABLE),
+        ],
+        &[],
+    )?;
+    let archive_text = "\
+loaded 0 main.o
+loaded 1 a.o
+loaded 2 b.o
+symbol 0 <unnamed> -> 0 [ABSOLUTE]
+symbol 1 <unnamed> -> 0 [ABSOLUTE | NON_INTERPOSABLE]
+symbol 2 foo -> 4 [ABSOLUTE]
+symbol 3 <unnamed> -> 0 [ABSOLUTE | NON_INTERPOSABLE]
+symbol 4 foo -> 4 [NON_INTERPOSABLE | HAS_NON_IR_REF]
+symbol 5 bar -> 7 [ABSOLUTE]
+symbol 6 <unnamed> -> 0 [ABSOLUTE | NON_INTERPOSABLE]
+symbol 7 bar -> 7 [NON_INTERPOSABLE | HAS_NON_IR_REF]
+symbol 8 <unnamed> -> 0 [ABSOLUTE | NON_INTERPOSABLE]
+symbol 9 baz -> 9 [NON_INTERPOSABLE]
+";
+    // An object without symbols.
+    let empty = linked(
+        alloc,
+        &[(0, b"e.o".as_slice())],
+        &[
+            (b"".as_slice(), 0, ABSOLUTE),
+            (b"".as_slice(), 0, ABSOLUTE + NON_INTERPOSABLE),
+        ],
+        &[],
+    )?;
+    let empty_text = "\
+loaded 0 e.o
+symbol 0 <unnamed> -> 0 [ABSOLUTE]
+symbol 1 <unnamed> -> 0 [ABSOLUTE | NON_INTERPOSABLE]
+";
+    // Names that are empty, no text, or hold a quote, a line feed or a letter of two bytes.
+    let odd = linked(
+        alloc,
+        &[(7, b"".as_slice()), (30, b"\"\xc3\xa9\"\n.o".as_slice())],
+        &[
+            (b"\xff\x00".as_slice(), 4_294_967_295, 0),
+            (b"a\nb".as_slice(), 0, DOWNGRADE_TO_LOCAL),
+        ],
+        &[(1, b"".as_slice()), (12, b"\x80".as_slice())],
+    )?;
+    let odd_text = "\
+loaded 7 \nloaded 30 \"\u{e9}\"\n.o
+symbol 0 INVALID UTF-8([255, 0]) -> 4294967295 []
+symbol 1 a\nb -> 0 [DOWNGRADE_TO_LOCAL]
+undefined 1 \nundefined 12 INVALID UTF-8([128])
+";
+    let nothing = linked(alloc, &[], &[], &[])?;
+    for (answer, text) in [
+        (&archive, archive_text),
+        (&empty, empty_text),
+        (&odd, odd_text),
+        (&nothing, ""),
+    ] {
+        assert!(rt;
+            report_text(alloc, answer)?.as_slice() == text.as_bytes(),
+            "{text}"
+        );
+    }
+    Ok(())
+}
+
+#[test]
+fn the_text_of_a_refusal(rt: HostRuntime) -> Result<(), Fail> {
+    let alloc = rt.alloc();
+    let one = Name::from_slice(alloc, b"foo, defined in a.o and b.o")?;
+    let two = Name::from_slice(alloc, b"INVALID UTF-8([255]), defined in a.o and \xff")?;
+    let rows = [
+        (
+            LinkError::TooMany {
+                kind: TooManyKind::Objects,
+                count: 16_777_213,
+            },
+            b"Too many objects: 16777213".as_slice(),
+        ),
+        (
+            LinkError::TooMany {
+                kind: TooManyKind::Sections,
+                count: 4_294_967_296,
+            },
+            b"Too many sections: 4294967296".as_slice(),
+        ),
+        (
+            LinkError::TooMany {
+                kind: TooManyKind::Symbols,
+                count: 18_446_744_073_709_551_615,
+            },
+            b"Too many symbols: 18446744073709551615".as_slice(),
+        ),
+        (LinkError::NoInputs, b"no input files".as_slice()),
+        (
+            LinkError::DuplicateSymbols(Seq::from_vec(vec![in alloc; one.clone()?]?)),
+            b"Duplicate symbols detected: foo, defined in a.o and b.o".as_slice(),
+        ),
+        (
+            LinkError::DuplicateSymbols(Seq::from_vec(vec![in alloc; two, one.clone()?, one]?)),
+            b"Duplicate symbols detected: INVALID UTF-8([255]), defined in a.o and \xff
+foo, defined in a.o and b.o\nfoo, defined in a.o and b.o"
+                .as_slice(),
+        ),
+        (
+            LinkError::DuplicateSymbols(Seq::new(alloc)),
+            b"Duplicate symbols detected: ".as_slice(),
+        ),
+        (LinkError::Memory, b"out of memory".as_slice()),
+    ];
+    for (row, (error, text)) in rows.iter().enumerate() {
+        assert!(rt;
+            refusal_text(alloc, error)?.as_slice() == *text,
+            "row {row}"
+        );
+    }
+    Ok(())
+}
