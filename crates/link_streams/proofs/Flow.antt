@@ -1,0 +1,45 @@
+-- Pieces of a stream, one after another.
+use Rattle.std.proofs.Common.{ℕ, ◌+◌, ◌<◌, List, [], ◌++◌, length, Option, Some, None, IfSome, Result, Ok, Err, OnErr, arith, refl}
+use Rattle.std.proofs.lemmas.Grind.{common_steps}
+use Rattle.link_streams.specs.Streams.{Gives, Takes}
+
+-- handing over nothing changes nothing
+pub gives-nothing : (a : Option (List ℕ)) → Gives a a []
+gives-nothing None = tt
+gives-nothing (Some all) = refl
+
+-- two pieces handed over one after the other are one piece
+pub gives-more : (a b c : Option (List ℕ)) (xs ys : List ℕ) → Gives a b xs → Gives b c ys → Gives a c (xs ++ ys)
+gives-more None None None xs ys first second = tt
+gives-more None None (Some c) xs ys first second = second
+gives-more None (Some b) c xs ys first second = absurd first
+gives-more (Some a) None c xs ys first second = absurd first
+gives-more (Some a) (Some b) None xs ys first second = second
+gives-more (Some a) (Some b) (Some c) xs ys first second = rw (first, second) (grind (arith, common_steps))
+
+-- a source that gave more than the limit in two pieces had more than the limit
+pub too_long : (a b c : Option (List ℕ)) (xs ys : List ℕ) (limit : ℕ) → Gives a b xs → Gives b c ys → limit < length xs + length ys
+    → IfSome a (λ all. limit < length all)
+too_long None b c xs ys limit first second over = tt
+too_long (Some a) None c xs ys limit first second over = absurd first
+too_long (Some a) (Some b) None xs ys limit first second over = absurd second
+too_long (Some a) (Some b) (Some c) xs ys limit first second over = rw (first, second) (grind (arith, common_steps))
+
+-- taking nothing changes nothing
+pub takes-nothing : (a : Option (List ℕ)) → Takes a a []
+takes-nothing None = tt
+takes-nothing (Some all) = grind (arith, common_steps)
+
+-- two pieces taken one after the other are one piece
+pub takes-more : (a b c : Option (List ℕ)) (xs ys : List ℕ) → Takes a b xs → Takes b c ys → Takes a c (xs ++ ys)
+takes-more None None None xs ys first second = tt
+takes-more None None (Some c) xs ys first second = second
+takes-more None (Some b) c xs ys first second = absurd first
+takes-more (Some a) None c xs ys first second = absurd first
+takes-more (Some a) (Some b) None xs ys first second = second
+takes-more (Some a) (Some b) (Some c) xs ys first second = rw (second, first) (grind (arith, common_steps))
+
+-- a fact that holds anyway holds on an error
+pub on_err : {T E P : Type 0} (r : Result T E) → P → OnErr r P
+on_err (Ok value) fact = tt
+on_err (Err error) fact = fact

@@ -1,0 +1,33 @@
+-- What a source still has, and what a sink has taken; either may not tell.
+use Rattle.std.specs.Prelude.{◌≡◌, ◌⊎◌, ℕ, ◌<◌, ◌^◌, ◌-◌, List, [], ◌++◌, length, take, Option, Some, None}
+
+-- these bytes were handed over, from the front of what was left
+abbrev pub Gives : Option (List ℕ) → Option (List ℕ) → List ℕ → Type 0
+Gives None None got = Unit {0}
+Gives None (Some rest) got = ⊥
+Gives (Some all) None got = ⊥
+Gives (Some all) (Some rest) got = all ≡ got ++ rest
+
+-- some bytes were handed over
+abbrev pub GivesPart : Option (List ℕ) → Option (List ℕ) → Type 0
+GivesPart before after = (got : List ℕ) × Gives before after got
+
+-- nothing is left, where the source tells
+abbrev pub IsAtEnd : Option (List ℕ) → Type 0
+IsAtEnd None = Unit {0}
+IsAtEnd (Some rest) = rest ≡ []
+
+-- these bytes were taken, behind those taken before
+abbrev pub Takes : Option (List ℕ) → Option (List ℕ) → List ℕ → Type 0
+Takes None None bytes = Unit {0}
+Takes None (Some taken) bytes = ⊥
+Takes (Some before) None bytes = ⊥
+Takes (Some before) (Some after) bytes = after ≡ before ++ bytes
+
+-- some of these bytes were taken, from their front, but not all
+abbrev pub TakesPart : Option (List ℕ) → Option (List ℕ) → List ℕ → Type 0
+TakesPart before after bytes = (count : ℕ) × (count < length bytes) × Takes before after (take count bytes)
+
+-- a count of faults grew, or stands at its greatest
+abbrev pub Rose : ℕ → ℕ → Type 0
+Rose before after = (before < after) ⊎ (after ≡ 2 ^ 64 - 1)
