@@ -1,0 +1,19 @@
+//! Reads a manifest: one JSON value that says which files are linked, with their symbol tables.
+//!
+//! A manifest that can't be read is told with the place in it that is at fault, as
+//! `objects[0].symbols[2].name: missing`. Which of several faults is told is fixed: the tree is
+//! walked from its root, and the first fault on that walk counts.
+#![tactic(auto)]
+
+mod fault;
+mod laws;
+mod manifest;
+mod reading;
+mod tables;
+#[cfg(test)]
+mod tests;
+mod walk;
+
+pub use fault::{Kind, ManifestError, ManifestFault, Problem, Step};
+pub use laws::{read_manifests, written_faults};
+pub use manifest::{MAX_BYTES, Manifest, manifest_of};

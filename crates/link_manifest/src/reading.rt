@@ -1,0 +1,227 @@
+// How a value of the manifest is read, whatever its kind, and how a fault finds its path.
+ghost use Rattle.std.specs.Prelude.{◌≡◌, [], List, map, option_map, Result, Ok, IfOk};
+ghost use Rattle.std.specs.List.{list_any};
+ghost use Rattle.std.specs.Str.{bytes_eq};
+ghost use Rattle.serde_json.specs.Data.{Data};
+ghost use Rattle.serde_json.specs.View.{view, items_view, members_view};
+ghost use Rattle.link_manifest.specs.declared.fault.Step.TheVariants.{Key, Item};
+ghost use Rattle.link_manifest.specs.declared.fault.ManifestFault.{ManifestFault};
+ghost use Rattle.link_manifest.specs.declared.fault.ManifestError.TheVariants.{At};
+ghost use Rattle.link_manifest.specs.Reading.{fault_here, outward, within, unknown_key, none_unknown, object_of_keys, required, optional, items_read, list_read, IsSeenFrom, Reads};
+
+use crate::fault::{Kind, ManifestError, ManifestFault, Problem, Step};
+use link_ids::{Name, Seq};
+use serde_json::{Map, Value};
+use std::alloc::{AllocError, Global};
+
+/// A kind of value of the manifest.
+pub(crate) trait Readable {
+    /// What a value of the kind stands for.
+    type Read: Drop;
+
+    /// What a value stands for, or what is wrong with it.
+    ghost read: { Data → Result Self.Read ManifestFault };
+
+    /// Reads a value.
+    fn read(alloc: Global, value: &Value) -> Result<Self::Read, ManifestError>
+        ensures { Reads result (read (view value.now)) };
+}
+
+/// A fault of the value itself.
+pub(crate) fn fault_here(alloc: Global, problem: Problem) -> ManifestError
+    ensures { result ≡ At (fault_here problem) }
+{
+    ManifestError::At(ManifestFault {
+        path: Seq::new(alloc),
+        problem,
+    })
+}
+
+/// A fault of a value inside, seen from one step further out.
+fn outward(step: Step, fault: ManifestFault) -> Result<ManifestFault, AllocError>
+    ensures { IfOk result (λ seen. seen ≡ outward step fault) }
+{
+    let ManifestFault { path, problem } = fault;
+    let mut steps = path.into_vec();
+    steps.insert(0, step)?;
+    Ok(ManifestFault {
+        path: Seq::from_vec(steps),
+        problem,
+    })
+}
+
+/// The step to the value of a key.
+fn key_step(alloc: Global, key: &str) -> Result<Step, AllocError>
+    ensures { IfOk result (λ step. step ≡ Key key.now) }
+{
+    Ok(Step::Key(Name::from_slice(alloc, key.as_bytes())?))
+}
+
+/// An error of the value of a key, seen from its object.
+fn error_at_key(alloc: Global, key: &str, error: ManifestError) -> ManifestError
+    ensures { IsSeenFrom (Key key.now) error result }
+{
+    let ManifestError::At(fault) = error else {
+        return ManifestError::Memory;
+    };
+    match key_step(alloc, key) {
+        Ok(step) => match outward(step, fault) {
+            Ok(seen) => ManifestError::At(seen),
+            Err(_) => ManifestError::Memory,
+        },
+        Err(_) => ManifestError::Memory,
+    }
+}
+
+/// An error of an item, seen from its list.
+fn error_at_item(place: usize, error: ManifestError) -> ManifestError
+    ensures { IsSeenFrom (Item place) error result }
+{
+    let ManifestError::At(fault) = error else {
+        return ManifestError::Memory;
+    };
+    match outward(Step::Item(place), fault) {
+        Ok(seen) => ManifestError::At(seen),
+        Err(_) => ManifestError::Memory,
+    }
+}
+
+/// What was read of the value of a key, seen from its object.
+pub(crate) fn at_key<T: Drop>(
+    alloc: Global,
+    key: &str,
+    read: Result<T, ManifestError>,
+) -> Result<T, ManifestError>
+    ensures { (due : Result T ManifestFault) → Reads read due → Reads result (within (Key key.now) due) }
+{
+    match read {
+        Ok(value) => Ok(value),
+        Err(error) => Err(error_at_key(alloc, key, error)),
+    }
+}
+
+/// What was read of an item, seen from its list.
+pub(crate) fn at_item<T: Drop>(
+    place: usize,
+    read: Result<T, ManifestError>,
+) -> Result<T, ManifestError>
+    ensures { (due : Result T ManifestFault) → Reads read due → Reads result (within (Item place) due) }
+{
+    match read {
+        Ok(value) => Ok(value),
+        Err(error) => Err(error_at_item(place, error)),
+    }
+}
+
+/// The key is one of these.
+fn is_known(known: &[&str], key: &str) -> bool
+    ensures { result ≡ list_any (λ k. bytes_eq k key.now) (map (λ k. k.now) known.now) }
+{
+    for name in known {
+        if *name == key {
+            return true;
+        }
+    }
+    false
+}
+
+/// The least key that is none of these.
+fn unknown_key<'v>(members: &'v Map<String, Value>, known: &[&str]) -> Option<&'v str>
+    ensures { option_map (λ k. k.now) result ≡ unknown_key (map (λ k. k.now) known.now) (members_view members.now.entries) }
+{
+    for (key, _value) in members.iter() {
+        let name = key.as_str();
+        if !is_known(known, name) {
+            return Some(name);
+        }
+    }
+    None
+}
+
+/// Tells an unknown key, where there is one.
+fn none_unknown(alloc: Global, unknown: Option<&str>) -> Result<(), ManifestError>
+    ensures { Reads result (none_unknown (option_map (λ k. k.now) unknown.entry)) }
+{
+    match unknown {
+        None => Ok(()),
+        Some(key) => Err(error_at_key(alloc, key, fault_here(alloc, Problem::UnknownKey))),
+    }
+}
+
+/// The value is an object that has no other keys than these.
+pub(crate) fn object_of_keys(
+    alloc: Global,
+    value: &Value,
+    known: &[&str],
+) -> Result<(), ManifestError>
+    ensures { Reads result (object_of_keys (map (λ k. k.now) known.now) (view value.now)) }
+{
+    match value.as_object() {
+        Some(members) => none_unknown(alloc, unknown_key(members, known)),
+        None => Err(fault_here(alloc, Problem::Expected(Kind::Object))),
+    }
+}
+
+/// The value of a key that has to be there.
+pub(crate) fn required<K: Readable>(
+    alloc: Global,
+    value: &Value,
+    key: &str,
+) -> Result<K::Read, ManifestError>
+    ensures { Reads result (required key.now K.read (view value.now)) }
+{
+    match value.get(key) {
+        Some(found) => at_key(alloc, key, K::read(alloc, found)),
+        None => Err(error_at_key(alloc, key, fault_here(alloc, Problem::Missing))),
+    }
+}
+
+/// The value of a key that may be left out.
+pub(crate) fn optional<K: Readable>(
+    alloc: Global,
+    value: &Value,
+    key: &str,
+    default: K::Read,
+) -> Result<K::Read, ManifestError>
+    ensures { Reads result (optional key.now K.read default (view value.now)) }
+{
+    match value.get(key) {
+        Some(found) => at_key(alloc, key, K::read(alloc, found)),
+        None => Ok(default),
+    }
+}
+
+/// Reads the items of a list.
+fn items<K: Readable>(alloc: Global, values: &[Value]) -> Result<Seq<K::Read>, ManifestError>
+    ensures { Reads result (items_read K.read 0 (items_view values.now)) }
+{
+    let mut read = Vec::new(alloc);
+    for (place, value) in values.iter().enumerate() {
+        read.push(at_item(place, K::read(alloc, value))?)?;
+    }
+    Ok(Seq::from_vec(read))
+}
+
+/// Reads a list of values of a kind.
+fn list<K: Readable>(alloc: Global, value: &Value) -> Result<Seq<K::Read>, ManifestError>
+    ensures { Reads result (list_read K.read (view value.now)) }
+{
+    match value.as_array() {
+        Some(values) => items::<K>(alloc, values),
+        None => Err(fault_here(alloc, Problem::Expected(Kind::List))),
+    }
+}
+
+/// The value of a key that is a list; one that is left out is empty.
+pub(crate) fn optional_list<K: Readable>(
+    alloc: Global,
+    value: &Value,
+    key: &str,
+) -> Result<Seq<K::Read>, ManifestError>
+    ensures { Reads result (optional key.now (list_read K.read) [] (view value.now)) }
+{
+    match value.get(key) {
+        Some(found) => at_key(alloc, key, list::<K>(alloc, found)),
+        None => Ok(Seq::new(alloc)),
+    }
+}
