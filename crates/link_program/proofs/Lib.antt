@@ -1,0 +1,4 @@
+pub mod Numerals
+pub mod SortedTexts
+pub mod TooLong
+pub mod OneText

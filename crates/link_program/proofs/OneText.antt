@@ -1,0 +1,148 @@
+-- What is due is written, unless a fault comes between or memory runs out.
+use Rattle.std.proofs.Common.{◌≡◌, ℕ, ◌⊎◌, inl, inr, List, ◌++◌, Option, Some, None, IsSome, Result, Ok, Err, codes, refl, sym, ◌∙◌, subst, ap}
+use Rattle.std.specs.Prelude.{MatchOption}
+use Rattle.link_input.specs.declared.object.ParsedInputObject.{ParsedInputObject}
+use Rattle.link_rules.specs.declared.linked.Linked.{Linked as Answer}
+use Rattle.link_rules.specs.declared.refusal.LinkError.{LinkError}
+use Rattle.link_rules.specs.declared.refusal.LinkError.TheVariants.{DuplicateSymbols}
+use Rattle.link_rules.specs.Places.{Bytes}
+use Rattle.link_rules.specs.Rivals.{duplicates, IsSortedTexts}
+use Rattle.link_rules.specs.Answer.{IsLinked, IsRefused, HasDuplicates, early_refusal}
+use Rattle.link_rules.specs.Report.{IsReport, refusal_text}
+use Rattle.link_rules.proofs.OneAnswer.{one-loaded, one-report}
+use Rattle.link_manifest.specs.declared.fault.ManifestFault.{ManifestFault}
+use Rattle.link_manifest.specs.declared.manifest.Manifest.{Manifest as Described}
+use Rattle.link_manifest.specs.FaultText.{fault_text}
+use Rattle.link_manifest.specs.Manifest.{manifest_of}
+use Rattle.link_program.specs.declared.command.Command.TheVariants.{Link}
+use Rattle.link_program.specs.declared.status.Status.{Status}
+use Rattle.link_program.specs.declared.status.Status.TheVariants.{Linked, Refused, Usage, Manifest, ReadFault, WriteFault, Memory}
+use Rattle.link_program.specs.Grammar.{IsLink, IsNoCommand}
+use Rattle.link_program.specs.Outcome.{error_line, IsManifest, IsTextOf, IsWholeText, IsTextFor, IsDue}
+use Rattle.link_program.proofs.SortedTexts.{one-sorted}
+
+-- no objects are both linked and refused
+linked-not_refused : (objects : List ParsedInputObject) (linked : Answer) (error : LinkError) → IsLinked objects linked → IsRefused objects error → ⊥
+linked-not_refused objects linked error done refused =
+    let twice : HasDuplicates objects error = subst (λ first. MatchOption first (HasDuplicates objects error) (λ e. error ≡ e)) done.starts refused in
+    twice.some (ap (duplicates objects) (one-loaded objects twice.marks done.marks twice.loaded done.loaded) ∙ done.no_duplicates)
+
+-- a link has one cause for which it is refused
+one-duplicates : (objects : List ParsedInputObject) (a b : LinkError) → HasDuplicates objects a → HasDuplicates objects b → a ≡ b
+one-duplicates objects a b first second =
+    let marks = one-loaded objects first.marks second.marks first.loaded second.loaded in
+    let texts = ap (duplicates objects) marks in
+    let sorted = subst (λ (xs : List Bytes). IsSortedTexts xs first.lines) texts first.sorted in
+    first.is ∙ ap (λ (xs : List Bytes). DuplicateSymbols xs) (one-sorted (duplicates objects second.marks) first.lines second.lines sorted second.sorted) ∙ sym second.is
+
+one-cause : (objects : List ParsedInputObject) (early : Option LinkError) (a b : LinkError) → MatchOption early (HasDuplicates objects a) (λ e. a ≡ e)
+    → MatchOption early (HasDuplicates objects b) (λ e. b ≡ e) → a ≡ b
+one-cause objects None a b first second = one-duplicates objects a b first second
+one-cause objects (Some e) a b first second = first ∙ sym second
+
+one-refusal : (objects : List ParsedInputObject) (a b : LinkError) → IsRefused objects a → IsRefused objects b → a ≡ b
+one-refusal objects a b first second = one-cause objects (early_refusal objects) a b first second
+
+ok-inj : {X E : Type 0} (r : Result X E) (x y : X) → r ≡ Ok x → r ≡ Ok y → x ≡ y
+ok-inj r x y is is' = cc
+
+err-inj : {X E : Type 0} (r : Result X E) (x y : E) → r ≡ Err x → r ≡ Err y → x ≡ y
+err-inj r x y is is' = cc
+
+ok-not_err : {X E : Type 0} (r : Result X E) (x : X) (e : E) → r ≡ Ok x → r ≡ Err e → ⊥
+ok-not_err r x e is is' = cc
+
+same-objects : (bytes : Bytes) (a b : List ParsedInputObject) → IsManifest bytes a → IsManifest bytes b → a ≡ b
+same-objects bytes a b (m, reads, is) (n, reads', is') =
+    let same : m ≡ n = ok-inj (manifest_of bytes) m n reads reads' in
+    sym is ∙ ap (λ (k : Described). k.inputs.objects) same ∙ is'
+
+report-one : (bytes a b : Bytes) → IsTextOf bytes Linked a → IsTextOf bytes Linked b → a ≡ b
+report-one bytes a b (objects, is, held) (objects', is', held') =
+    one-report objects a b held (subst (λ (os : List ParsedInputObject). IsReport os b) (same-objects bytes objects' objects is' is) held')
+
+refusal-one : (bytes a b : Bytes) → IsTextOf bytes Refused a → IsTextOf bytes Refused b → a ≡ b
+refusal-one bytes a b (objects, cause, is, (error, refused, told), line) (objects', cause', is', (error', refused', told'), line') =
+    let same = subst (λ (os : List ParsedInputObject). IsRefused os error') (same-objects bytes objects' objects is' is) refused' in
+    let text : cause ≡ cause' = told ∙ ap refusal_text (one-refusal objects error error' refused same) ∙ sym told' in
+    line ∙ ap error_line text ∙ sym line'
+
+fault-one : (bytes a b : Bytes) → IsTextOf bytes Manifest a → IsTextOf bytes Manifest b → a ≡ b
+fault-one bytes a b (fault, fails, line) (fault', fails', line') =
+    line ∙ ap (λ (f : ManifestFault). error_line (codes "manifest: " ++ fault_text f)) (err-inj (manifest_of bytes) fault fault' fails fails') ∙ sym line'
+
+not-both : (bytes a b : Bytes) → IsTextOf bytes Linked a → IsTextOf bytes Refused b → ⊥
+not-both bytes a b (objects, is, (linked, done, shown)) (objects', cause, is', (error, refused, told), line) =
+    linked-not_refused objects linked error done (subst (λ (os : List ParsedInputObject). IsRefused os error) (same-objects bytes objects' objects is' is) refused)
+
+linked-reads : (bytes a b : Bytes) → IsTextOf bytes Linked a → IsTextOf bytes Manifest b → ⊥
+linked-reads bytes a b (objects, (m, reads, is), held) (fault, fails, line) = ok-not_err (manifest_of bytes) m fault reads fails
+
+refused-reads : (bytes a b : Bytes) → IsTextOf bytes Refused a → IsTextOf bytes Manifest b → ⊥
+refused-reads bytes a b (objects, cause, (m, reads, is), held, line) (fault, fails, line') = ok-not_err (manifest_of bytes) m fault reads fails
+
+-- some bytes have one status and one text
+one-text : (bytes : Bytes) (s t : Status) (a b : Bytes) → IsTextOf bytes s a → IsTextOf bytes t b → (s ≡ t) × (a ≡ b)
+one-text bytes Linked Linked a b held held' = (refl, report-one bytes a b held held')
+one-text bytes Linked Refused a b held held' = absurd (not-both bytes a b held held')
+one-text bytes Linked Manifest a b held held' = absurd (linked-reads bytes a b held held')
+one-text bytes Refused Linked a b held held' = absurd (not-both bytes b a held' held)
+one-text bytes Refused Refused a b held held' = (refl, refusal-one bytes a b held held')
+one-text bytes Refused Manifest a b held held' = absurd (refused-reads bytes a b held held')
+one-text bytes Manifest Linked a b held held' = absurd (linked-reads bytes b a held' held)
+one-text bytes Manifest Refused a b held held' = absurd (refused-reads bytes b a held' held)
+one-text bytes Manifest Manifest a b held held' = (refl, fault-one bytes a b held held')
+one-text bytes Usage t a b held held' = absurd held
+one-text bytes ReadFault t a b held held' = absurd held
+one-text bytes WriteFault t a b held held' = absurd held
+one-text bytes Memory t a b held held' = absurd held
+one-text bytes Linked Usage a b held held' = absurd held'
+one-text bytes Linked ReadFault a b held held' = absurd held'
+one-text bytes Linked WriteFault a b held held' = absurd held'
+one-text bytes Linked Memory a b held held' = absurd held'
+one-text bytes Refused Usage a b held held' = absurd held'
+one-text bytes Refused ReadFault a b held held' = absurd held'
+one-text bytes Refused WriteFault a b held held' = absurd held'
+one-text bytes Refused Memory a b held held' = absurd held'
+one-text bytes Manifest Usage a b held held' = absurd held'
+one-text bytes Manifest ReadFault a b held held' = absurd held'
+one-text bytes Manifest WriteFault a b held held' = absurd held'
+one-text bytes Manifest Memory a b held held' = absurd held'
+
+-- so has a source that tells what it has left
+whole-text : (left : Option Bytes) (s t : Status) (a b : Bytes) → IsSome left → IsWholeText left s a → IsWholeText left t b → (s ≡ t) × (a ≡ b)
+whole-text None s t a b tells held held' = absurd (cc)
+whole-text (Some all) s t a b tells (bytes, are, held) (bytes', are', held') =
+    one-text all s t a b (subst (λ (bs : Bytes). IsTextOf bs s a) (sym are) held) (subst (λ (bs : Bytes). IsTextOf bs t b) (sym are') held')
+
+link-is_command : (words : List Bytes) → IsLink words → IsNoCommand words → ⊥
+link-is_command words (workers, is) none = none (Link workers) is
+
+due-whole : (words : List Bytes) (left : Option Bytes) (s t : Status) (a b : Bytes) → IsDue words left s a → IsLink words → IsWholeText left t b → (t ≡ s) × (b ≡ a)
+due-whole words left Linked t a b due link held = whole-text left t Linked b a due.0 held due.1.1
+due-whole words left Refused t a b due link held = whole-text left t Refused b a due.0 held due.1.1
+due-whole words left Manifest t a b due link held = whole-text left t Manifest b a due.0 held due.1.1
+due-whole words left Usage t a b due link held = absurd (link-is_command words link due.0)
+due-whole words left ReadFault t a b due link held = absurd due
+due-whole words left WriteFault t a b due link held = absurd due
+due-whole words left Memory t a b due link held = absurd due
+
+due-usage : (words : List Bytes) (left : Option Bytes) (s : Status) (a b : Bytes) → IsDue words left s a → IsTextFor words left Usage b → (Usage ≡ s) × (b ≡ a)
+due-usage words left Usage a b due held = (refl, held.1 ∙ sym due.1)
+due-usage words left Linked a b due held = absurd (link-is_command words due.1.0 held.0)
+due-usage words left Refused a b due held = absurd (link-is_command words due.1.0 held.0)
+due-usage words left Manifest a b due held = absurd (link-is_command words due.1.0 held.0)
+due-usage words left ReadFault a b due held = absurd due
+due-usage words left WriteFault a b due held = absurd due
+due-usage words left Memory a b due held = absurd due
+
+-- where no fault comes between, what is due or want of memory is left
+pub due-or_memory : (words : List Bytes) (left : Option Bytes) (s t : Status) (a b : Bytes) → IsDue words left s a → (t ≡ ReadFault → ⊥)
+    → IsTextFor words left t b → ((t ≡ s) × (b ≡ a)) ⊎ (t ≡ Memory)
+due-or_memory words left s Linked a b due no_fault held = inl (due-whole words left s Linked a b due held.0 held.1)
+due-or_memory words left s Refused a b due no_fault held = inl (due-whole words left s Refused a b due held.0 held.1)
+due-or_memory words left s Manifest a b due no_fault held = inl (due-whole words left s Manifest a b due held.0 held.1)
+due-or_memory words left s Usage a b due no_fault held = inl (due-usage words left s a b due held)
+due-or_memory words left s ReadFault a b due no_fault held = absurd (no_fault refl)
+due-or_memory words left s WriteFault a b due no_fault held = absurd held
+due-or_memory words left s Memory a b due no_fault held = inr refl

@@ -1,0 +1,10 @@
+use Rattle.std.proofs.Common.{◌≡◌, length, codes, arith, rules}
+use Rattle.link_program.proofs.Numerals.{two-words}
+use Rattle.link_program.proofs.command.command_of.Goals as goal
+
+pub returns-in_ok-workers-in-len2-clause-command : goal.returns-in_ok-workers-in-len2-clause-command
+returns-in_ok-workers-in-len2-clause-command c =
+    let two : length c.args.words.now ≡ 2 = omega (arith, c.in-len2.len_at_least, c.in-len2.len_below) in
+    let name : c.name-item.result ≡ codes "link" = search rules in
+    let made = c.in_ok-workers-in-len2.ensures in
+    (two-words c.args.words.now c.name-item.result c.workers-item.result _ _ two c.name-item.is c.workers-item.is name made.number, made.in_range)

@@ -1,0 +1,14 @@
+use Rattle.std.proofs.Common.{◌≡◌, refl, ap}
+use Rattle.link_manifest.specs.declared.fault.ManifestFault.{ManifestFault}
+use Rattle.link_manifest.specs.declared.fault.Problem.TheVariants.{TooLong}
+use Rattle.link_manifest.specs.Reading.{fault_here}
+use Rattle.link_program.proofs.TooLong.{told-too_long, ok-along}
+use Rattle.link_program.proofs.run.answer_to_link.Goals as goal
+
+pub returns-in-Err-TooLong-clause-text : goal.returns-in-Err-TooLong-clause-text
+returns-in-Err-TooLong-clause-text g c =
+    let fault : ManifestFault = record { path = c.new.result; problem = TooLong } in
+    let is : fault ≡ fault_here TooLong = ap (λ path. record { path = path; problem = TooLong }) c.new.ensures in
+    let over = rw c.in-Err-TooLong.field-0-is at c.in-Err-TooLong.ensures.too_long in
+    ok-along c.fault_answer.result _ _ _ (λ a status line. told-too_long (g.S.Source.left c.args.source.now) fault a.status a.text.items (over refl) is status line)
+    c.fault_answer.ensures.status c.fault_answer.ensures.text

@@ -1,0 +1,24 @@
+-- The words of a command.
+use Rattle.std.specs.Prelude.{◌≡◌, ℕ, ◌≤◌, List, [], ◌∷◌, codes, decimal}
+use Rattle.link_rules.specs.Places.{Bytes}
+use Rattle.link_program.specs.declared.command.Command.{Command}
+use Rattle.link_program.specs.declared.command.Command.TheVariants.{Link}
+
+-- the words that write a command
+abbrev pub words_of : Command → List Bytes
+words_of (Link workers) = codes "link" ∷ decimal workers ∷ []
+
+-- its numbers are in their range
+abbrev pub IsInRange : Command → Type 0
+IsInRange (Link workers) = (1 ≤ workers) × (workers ≤ 256)
+
+abbrev pub IsCommand : List Bytes → Command → Type 0
+IsCommand words command = (words ≡ words_of command) × IsInRange command
+
+-- the words ask for a link
+abbrev pub IsLink : List Bytes → Type 0
+IsLink words = (workers : ℕ) × IsCommand words (Link workers)
+
+-- the words write no command
+abbrev pub IsNoCommand : List Bytes → Type 0
+IsNoCommand words = (command : Command) → IsCommand words command → ⊥

@@ -1,0 +1,76 @@
+-- What a command writes, by how it ends.
+use Rattle.std.specs.Prelude.{◌≡◌, ℕ, List, [], ◌++◌, Option, IsSome, IfSome, Ok, Err, codes}
+use Rattle.link_input.specs.declared.object.ParsedInputObject.{ParsedInputObject}
+use Rattle.link_rules.specs.Places.{Bytes}
+use Rattle.link_rules.specs.Report.{IsReport, IsRefusalText}
+use Rattle.link_manifest.specs.declared.fault.ManifestFault.{ManifestFault}
+use Rattle.link_manifest.specs.declared.manifest.Manifest.{Manifest as Described}
+use Rattle.link_manifest.specs.FaultText.{fault_text}
+use Rattle.link_manifest.specs.Manifest.{manifest_of}
+use Rattle.link_program.specs.declared.status.Status.{Status}
+use Rattle.link_program.specs.declared.status.Status.TheVariants.{Linked, Refused, Usage, Manifest, ReadFault, WriteFault, Memory}
+use Rattle.link_program.specs.Grammar.{IsLink, IsNoCommand}
+
+-- the number that the program ends with
+abbrev pub status_number : Status → ℕ
+status_number Linked = 0
+status_number Refused = 1
+status_number Usage = 2
+status_number Manifest = 3
+status_number ReadFault = 4
+status_number WriteFault = 5
+status_number Memory = 6
+
+-- the line that tells an error
+abbrev pub error_line : Bytes → Bytes
+error_line what = codes "error: " ++ what ++ codes "\n"
+
+-- the bytes are the manifest of these objects
+abbrev pub IsManifest : Bytes → List ParsedInputObject → Type 0
+IsManifest bytes objects = (m : Described) × (manifest_of bytes ≡ Ok m) × (m.inputs.objects ≡ objects)
+
+-- the text of a link of what these bytes describe, by the status
+abbrev pub IsTextOf : Bytes → Status → Bytes → Type 0
+IsTextOf bytes Linked text = (objects : List ParsedInputObject) × IsManifest bytes objects × IsReport objects text
+IsTextOf bytes Refused text =
+    (objects : List ParsedInputObject) × (cause : Bytes) × IsManifest bytes objects × IsRefusalText objects cause × (text ≡ error_line cause)
+IsTextOf bytes Manifest text =
+    (fault : ManifestFault) × (manifest_of bytes ≡ Err fault) × (text ≡ error_line (codes "manifest: " ++ fault_text fault))
+IsTextOf bytes Usage text = ⊥
+IsTextOf bytes ReadFault text = ⊥
+IsTextOf bytes WriteFault text = ⊥
+IsTextOf bytes Memory text = ⊥
+
+-- the same, for some bytes; where the source tells, they are all that it had left
+abbrev pub IsWholeText : Option Bytes → Status → Bytes → Type 0
+IsWholeText left status text = (bytes : Bytes) × IfSome left (λ all. all ≡ bytes) × IsTextOf bytes status text
+
+-- the text of a link of what a source has left, by the status
+abbrev pub IsLinkText : Option Bytes → Status → Bytes → Type 0
+IsLinkText left Linked text = IsWholeText left Linked text
+IsLinkText left Refused text = IsWholeText left Refused text
+IsLinkText left Manifest text = IsWholeText left Manifest text
+IsLinkText left ReadFault text = text ≡ error_line (codes "read fault")
+IsLinkText left Usage text = ⊥
+IsLinkText left WriteFault text = ⊥
+IsLinkText left Memory text = ⊥
+
+-- the text for these words and what the source has left, by the status
+abbrev pub IsTextFor : List Bytes → Option Bytes → Status → Bytes → Type 0
+IsTextFor words left Linked text = IsLink words × IsLinkText left Linked text
+IsTextFor words left Refused text = IsLink words × IsLinkText left Refused text
+IsTextFor words left Manifest text = IsLink words × IsLinkText left Manifest text
+IsTextFor words left ReadFault text = IsLink words × IsLinkText left ReadFault text
+IsTextFor words left Usage text = IsNoCommand words × (text ≡ error_line (codes "usage"))
+IsTextFor words left WriteFault text = ⊥
+IsTextFor words left Memory text = text ≡ []
+
+-- the status and the text that are due, where no fault comes between: by the words, and by what a source that tells has left
+abbrev pub IsDue : List Bytes → Option Bytes → Status → Bytes → Type 0
+IsDue words left Linked text = IsSome left × IsTextFor words left Linked text
+IsDue words left Refused text = IsSome left × IsTextFor words left Refused text
+IsDue words left Manifest text = IsSome left × IsTextFor words left Manifest text
+IsDue words left Usage text = IsTextFor words left Usage text
+IsDue words left ReadFault text = ⊥
+IsDue words left WriteFault text = ⊥
+IsDue words left Memory text = ⊥

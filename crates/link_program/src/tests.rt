@@ -1,0 +1,194 @@
+// The program from its words to its last byte, with ample memory: what is written, and how it ends.
+ghost use Rattle.std.specs.Prelude.{◌<◌};
+
+use crate::run::run;
+use crate::status::Status;
+use crate::word::Word;
+use link_streams::{MemorySink, MemorySource};
+use std::alloc::{AllocError, Global};
+use std::test::Fail;
+use std::thread::Threads;
+
+/// A required object that asks for a member of an archive, which asks for another.
+const ARCHIVE: &str =
+    r#"{"objects":[{"name":"main.o","symbols":[{"name":"foo","place":"undefined"}]},{"name":"a.o","archive":true,"sections":2,"symbols":[{"name":"foo","place":1},{"name":"bar","place":"undefined"}]},{"name":"b.o","archive":true,"sections":2,"symbols":[{"name":"bar","place":1}]},{"name":"c.o","archive":true,"sections":2,"symbols":[{"name":"baz","place":1}]}]}"#;
+
+const ARCHIVE_REPORT: &str = "\
+loaded 0 main.o
+loaded 1 a.o
+loaded 2 b.o
+symbol 0 <unnamed> -> 0 [ABSOLUTE]
+symbol 1 <unnamed> -> 0 [ABSOLUTE | NON_INTERPOSABLE]
+symbol 2 foo -> 4 [ABSOLUTE]
+symbol 3 <unnamed> -> 0 [ABSOLUTE | NON_INTERPOSABLE]
+symbol 4 foo -> 4 [NON_INTERPOSABLE | HAS_NON_IR_REF]
+symbol 5 bar -> 7 [ABSOLUTE]
+symbol 6 <unnamed> -> 0 [ABSOLUTE | NON_INTERPOSABLE]
+symbol 7 bar -> 7 [NON_INTERPOSABLE | HAS_NON_IR_REF]
+symbol 8 <unnamed> -> 0 [ABSOLUTE | NON_INTERPOSABLE]
+symbol 9 baz -> 9 [NON_INTERPOSABLE]
+";
+
+/// Manifests that `link 2` is run on, how each ends, and what is written.
+const MANIFESTS: [(&str, Status, &str); 8] = [
+    (
+        r#"{"objects":[{"name":"e.o"}]}"#,
+        Status::Linked,
+        "loaded 0 e.o
+symbol 0 <unnamed> -> 0 [ABSOLUTE]
+symbol 1 <unnamed> -> 0 [ABSOLUTE | NON_INTERPOSABLE]
+",
+    ),
+    // Names with a quote, a line feed and a letter of two bytes; one of them is not defined.
+    (
+        r#"{"objects":[{"name":"\"q\".o","sections":1,"symbols":[{"name":"a\nb","place":"undefined"},{"name":"\u00e9","place":0}]}]}"#,
+        Status::Linked,
+        "loaded 0 \"q\".o
+symbol 0 <unnamed> -> 0 [ABSOLUTE]
+symbol 1 <unnamed> -> 0 [ABSOLUTE | NON_INTERPOSABLE]
+symbol 2 a\nb -> 2 [ABSOLUTE | NON_INTERPOSABLE]
+symbol 3 \u{e9} -> 3 [NON_INTERPOSABLE]
+undefined 2 a\nb
+",
+    ),
+    ("{}", Status::Refused, "error: no input files\n"),
+    (
+        r#"{"objects":[{"name":"a.o","sections":2,"symbols":[{"name":"foo","place":1}]},{"name":"b.o","sections":2,"symbols":[{"name":"foo","place":1}]}]}"#,
+        Status::Refused,
+        "error: Duplicate symbols detected: foo, defined in a.o and b.o\n",
+    ),
+    ("", Status::Manifest, "error: manifest: not JSON\n"),
+    (
+        r#"{"objets":[]}"#,
+        Status::Manifest,
+        "error: manifest: objets: unknown key\n",
+    ),
+    (
+        r#"{"objects":[{"name":"a.o"},{"symbols":[]}]}"#,
+        Status::Manifest,
+        "error: manifest: objects[1].name: missing\n",
+    ),
+    ("[]", Status::Manifest, "error: manifest: expected object\n"),
+];
+
+/// Words that are no command.
+const NO_COMMANDS: [&str; 15] = [
+    "",
+    "link",
+    "2",
+    "link 0",
+    "link 257",
+    "link 01",
+    "link +1",
+    "link -1",
+    "link 1x",
+    "link \u{661}",
+    "link 18446744073709551617",
+    "link 1 2",
+    "Link 1",
+    "2 link",
+    "bulk 10 3",
+];
+
+/// The words that a blank parts.
+fn words_of(alloc: Global, line: &str) -> Result<Vec<Word>, AllocError> {
+    let mut words = Vec::new(alloc);
+    for word in line.split_whitespace() {
+        words.push(Word::new(String::from_str(alloc, word)?))?;
+    }
+    Ok(words)
+}
+
+/// Runs a command, by pieces of so many bytes, on a source and a sink that fail at a call each, or at
+/// none where its number is 0. Answers how it ended, and what the sink has taken.
+fn ran<R: Threads + Sync>(
+    rt: &R,
+    alloc: Global,
+    line: &str,
+    manifest: &str,
+    piece: usize,
+    failing_read: u64,
+    failing_write: u64,
+) -> Result<(Status, Vec<u8>), AllocError>
+    requires { 0 < piece }
+{
+    let words = words_of(alloc, line)?;
+    let bytes = Vec::from_slice(alloc, manifest.as_bytes())?;
+    let mut source = MemorySource::new(bytes, piece, vec![in alloc; failing_read]?);
+    let mut sink = MemorySink::new(alloc, piece, vec![in alloc; failing_write]?);
+    let status = run(rt, alloc, &words, &mut source, &mut sink);
+    let taken = Vec::from_slice(alloc, sink.taken())?;
+    Ok((status, taken))
+}
+
+#[test]
+fn each_manifest_has_its_text(rt: HostRuntime) -> Result<(), Fail> {
+    let alloc = rt.alloc();
+    for (manifest, status, text) in MANIFESTS {
+        let (ended, taken) = ran(&rt, alloc, "link 2", manifest, 100, 0, 0)?;
+        assert_eq!(rt; ended, status, "{manifest}");
+        assert!(rt; taken.as_slice() == text.as_bytes(), "{manifest}");
+    }
+    Ok(())
+}
+
+#[test]
+fn other_words_are_no_command(rt: HostRuntime) -> Result<(), Fail> {
+    let alloc = rt.alloc();
+    for line in NO_COMMANDS {
+        let (ended, taken) = ran(&rt, alloc, line, ARCHIVE, 100, 0, 0)?;
+        assert_eq!(rt; ended, Status::Usage, "{line}");
+        assert!(rt; taken.as_slice() == b"error: usage\n".as_slice(), "{line}");
+    }
+    Ok(())
+}
+
+#[test]
+fn neither_workers_nor_pieces_change_a_byte(rt: HostRuntime) -> Result<(), Fail> {
+    let alloc = rt.alloc();
+    for line in ["link 1", "link 2", "link 7", "link 256"] {
+        for piece in 1usize..360 {
+            let (ended, taken) = ran(&rt, alloc, line, ARCHIVE, piece, 0, 0)?;
+            assert_eq!(rt; ended, Status::Linked, "{line}, pieces of {piece}");
+            assert!(rt;
+                taken.as_slice() == ARCHIVE_REPORT.as_bytes(),
+                "{line}, pieces of {piece}"
+            );
+        }
+    }
+    Ok(())
+}
+
+#[test]
+fn each_call_of_source_and_sink_may_fail(rt: HostRuntime) -> Result<(), Fail> {
+    let alloc = rt.alloc();
+    let report = ARCHIVE_REPORT.as_bytes();
+    for call in 1u64..10 {
+        // Four calls give bytes, and the fifth the end.
+        let (ended, taken) = ran(&rt, alloc, "link 2", ARCHIVE, 100, call, 0)?;
+        if call <= 5 {
+            assert_eq!(rt; ended, Status::ReadFault, "read {call}");
+            assert!(rt;
+                taken.as_slice() == b"error: read fault\n".as_slice(),
+                "read {call}"
+            );
+        } else {
+            assert_eq!(rt; ended, Status::Linked, "read {call}");
+            assert!(rt; taken.as_slice() == report, "read {call}");
+        }
+        let (ended, taken) = ran(&rt, alloc, "link 2", ARCHIVE, 100, 0, call)?;
+        let before = (call as usize - 1) * 100;
+        let fails = before < report.len();
+        let status = if fails {
+            Status::WriteFault
+        } else {
+            Status::Linked
+        };
+        assert_eq!(rt; ended, status, "write {call}");
+        assert!(rt;
+            Some(taken.as_slice()) == report.get(..before.min(report.len())),
+            "write {call}"
+        );
+    }
+    Ok(())
+}
