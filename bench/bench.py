@@ -1,0 +1,77 @@
+#!/usr/bin/env python3
+"""Runs the program on manifests that grow, and prints how its time and memory grow.
+
+    python3 bench/bench.py [PROGRAM] [COUNT..]
+
+PROGRAM is the built program, crates/link_program/out/link_program by default (./wolzhyke builds it). COUNT is a number
+of archive members, by default 1000, 10000 and 100000. A chain is main.o and members of which each refers to the next,
+or to the next ten; a fan is a main.o that refers to every member, and members that refer to one or ten others, spread
+over all. Every member is loaded in each. Prints a line for each manifest: its size, the number of symbols, the seconds
+that the program took, its microseconds a symbol, and the most memory that it held.
+"""
+
+import json
+import os
+import sys
+import tempfile
+import time
+
+
+def member(i, targets):
+    symbols = [{"name": f"t{i}", "place": 1}]
+    symbols += [{"name": f"t{t}", "place": "undefined"} for t in targets]
+    return {"name": f"m{i}.o", "archive": True, "sections": 2, "symbols": symbols}
+
+
+def chain(count, references):
+    main = {"name": "main.o", "symbols": [{"name": "t1", "place": "undefined"}]}
+    members = [member(i, range(i + 1, min(i + references, count) + 1)) for i in range(1, count + 1)]
+    return {"objects": [main] + members}
+
+
+def fan(count, references):
+    asked = [{"name": f"t{i}", "place": "undefined"} for i in range(1, count + 1)]
+    spread = [member(i, [1 + (i * 7919 + k * 104729) % count for k in range(references)]) for i in range(1, count + 1)]
+    return {"objects": [{"name": "main.o", "symbols": asked}] + spread}
+
+
+def run(program, manifest):
+    """The seconds that the program took, the most KiB that it held, and the size of its report."""
+    with tempfile.TemporaryDirectory() as folder:
+        source, sink = os.path.join(folder, "manifest.json"), os.path.join(folder, "report")
+        with open(source, "w") as file:
+            json.dump(manifest, file, separators=(",", ":"))
+        size = os.path.getsize(source)
+        start = time.monotonic()
+        child = os.fork()
+        if child == 0:
+            os.dup2(os.open(source, os.O_RDONLY), 0)
+            os.dup2(os.open(sink, os.O_WRONLY | os.O_CREAT, 0o600), 1)
+            os.execv(program, [program, "link", "1"])
+        _, status, usage = os.wait4(child, 0)
+        seconds = time.monotonic() - start
+        if status != 0:
+            sys.exit(f"{program} ended with status {os.waitstatus_to_exitcode(status)}")
+        return seconds, usage.ru_maxrss, size
+
+
+def main():
+    words = sys.argv[1:]
+    top = os.path.dirname(os.path.dirname(os.path.abspath(__file__)))
+    program = os.path.join(top, "crates/link_program/out/link_program")
+    if words and not words[0].isdigit():
+        program = os.path.abspath(words.pop(0))
+    counts = [int(word) for word in words] or [1000, 10000, 100000]
+    print(f"{'shape':>6} {'refs':>4} {'members':>8} {'MB':>7} {'symbols':>8} {'s':>7} {'us/symbol':>9} {'MB held':>8}")
+    for name, shape in (("chain", chain), ("fan", fan)):
+        for references in (1, 10):
+            for count in counts:
+                manifest = shape(count, references)
+                symbols = 1 + sum(1 + len(o["symbols"]) for o in manifest["objects"])
+                seconds, held, size = run(program, manifest)
+                print(f"{name:>6} {references:4} {count:8} {size / 1e6:7.2f} {symbols:8} {seconds:7.3f} "
+                      f"{seconds * 1e6 / symbols:9.2f} {held / 1024:8.1f}", flush=True)
+
+
+if __name__ == "__main__":
+    main()
