@@ -7,7 +7,7 @@ use Rattle.std.proofs.lemmas.List.Elements.{Contains-append_cases, Contains-appe
 use Rattle.link_closure.specs.declared.Edge.{Edge}
 use Rattle.link_closure.specs.Graph.{IsEdge}
 use Rattle.link_rules.specs.declared.symbol.Symbol.{Symbol}
-use Rattle.link_rules.specs.Loading.{target, object_of, HasEdge}
+use Rattle.link_rules.specs.Plain.Loading.{target, object_of, HasEdge}
 use Rattle.link_core.specs.Edges.{edge, edge_between, edge_from, edges_in}
 
 pub some-inj : {X : Type 0} {x y : X} → Some x ≡ Some y → x ≡ y

@@ -4,7 +4,7 @@ use Rattle.std.proofs.lemmas.Bool.{eqb-true}
 use Rattle.std.proofs.lemmas.List.{nil_from_length}
 use Rattle.std.proofs.lemmas.List.Sorted.{length_permutation}
 use Rattle.link_rules.specs.Places.{Bytes}
-use Rattle.link_rules.specs.Rivals.{IsSortedTexts}
+use Rattle.link_rules.specs.Sorting.{IsSortedTexts}
 
 -- no sorted text, no text
 pub sorted-none : (texts lines : List Bytes) → IsSortedTexts texts lines → (length lines == 0) ≡ true → texts ≡ []

@@ -2,7 +2,7 @@
 use Rattle.std.specs.Prelude.{ℕ, ◌==◌, List, [], ◌∷◌, ◌++◌, Option, Some, None, if◌then◌else◌, option_to_list, option_and_then}
 use Rattle.link_closure.specs.declared.Edge.{Edge}
 use Rattle.link_rules.specs.declared.symbol.Symbol.{Symbol}
-use Rattle.link_rules.specs.Loading.{object_of}
+use Rattle.link_rules.specs.Plain.Loading.{object_of}
 
 abbrev pub edge : ℕ → ℕ → Edge
 edge f g = record { from = f; to = g }

@@ -4,8 +4,8 @@ use Rattle.std.specs.HashMap.{HashMap, get_by}
 use Rattle.std.specs.Str.{bytes_eq}
 use denote.Ref.{Bor}
 use Rattle.link_rules.specs.declared.symbol.Symbol.{Symbol}
-use Rattle.link_rules.specs.World.{is_reference}
-use Rattle.link_rules.specs.Loading.{is_loaded}
+use Rattle.link_rules.specs.Plain.World.{is_reference}
+use Rattle.link_rules.specs.Plain.Loading.{is_loaded}
 use Rattle.link_core.specs.declared.names.LoadedDefinitions.{LoadedDefinitions}
 
 -- what a name has in a map under names

@@ -5,24 +5,24 @@ ghost use Rattle.link_closure.specs.Closure.{is_marked};
 ghost use Rattle.link_core.specs.Found.{found, is_left_with};
 ghost use Rattle.link_core.specs.Steps.{flags_from};
 ghost use Rattle.link_rules.specs.Places.{each_from, some_from, is_number};
-ghost use Rattle.link_rules.specs.Loading.{target};
-ghost use Rattle.link_rules.specs.Undefined.{canonical_undefined, is_canonical};
-ghost use Rattle.link_rules.specs.Table.{table_of, definition};
-ghost use Rattle.link_rules.specs.Answer.{loaded_object, linked_symbol, undefined_name, some_if};
+ghost use Rattle.link_rules.specs.Plain.Loading.{target};
+ghost use Rattle.link_rules.specs.Plain.Undefined.{canonical_undefined, is_canonical};
+ghost use Rattle.link_rules.specs.Plain.Table.{table_of, definition};
+ghost use Rattle.link_rules.specs.Plain.Answer.{loaded_object, linked_symbol, undefined_name, some_if};
 
 use crate::flags::{final_flags, referenced_symbols};
 use crate::names::is_left;
 use crate::table::definition;
 use link_ids::{Name, SymbolId};
-use link_input::ParsedInputObject;
+use link_input::{ParsedInputObject, Platform};
 use link_rules::{LinkedSymbol, LoadedObject, Symbol, UndefinedName};
 use std::alloc::{AllocError, Global};
 use std::collections::HashMap;
 
 /// The loaded objects, in their order.
-pub fn loaded_objects(
+pub fn loaded_objects<P: Platform>(
     alloc: Global,
-    objects: &[ParsedInputObject],
+    objects: &[ParsedInputObject<P>],
     loaded: &[bool],
 ) -> Result<Vec<LoadedObject>, AllocError>
     requires { length loaded.now ≡ length objects.now }
@@ -33,7 +33,7 @@ pub fn loaded_objects(
         if loaded[i] {
             found.push(LoadedObject {
                 object: i,
-                name: Name::from_slice(alloc, object.input.as_slice())?,
+                name: Name::from_slice(alloc, object.input().as_slice())?,
             })?;
         }
     }
@@ -73,7 +73,8 @@ fn is_canonical<'a>(
         && is_number(canonical.get(&symbol.name.as_slice()).copied(), id)
 }
 
-fn is_number(known: Option<u32>, id: u32) -> bool
+/// It is this id.
+pub fn is_number(known: Option<u32>, id: u32) -> bool
     ensures { result ≡ is_number known id }
 {
     match known {
@@ -146,12 +147,13 @@ fn push_undefined(
     id: SymbolId,
     symbol: &Symbol,
 ) -> Result<(), AllocError>
-    ensures { OnOk result (names.new.items ≡ names.old.items ++ option_to_list (some_if is_canonical (record { symbol = id; name = symbol.now.name }))) }
+    ensures { OnOk result (names.new.items ≡ names.old.items ++ option_to_list (some_if is_canonical (record { symbol = id; name = symbol.now.name; version = None }))) }
 {
     if is_canonical {
         names.push(UndefinedName {
             symbol: id,
             name: Name::from_slice(alloc, symbol.name.as_slice())?,
+            version: None,
         })?;
     }
     Ok(())

@@ -3,8 +3,8 @@ ghost use Rattle.std.specs.Prelude.{◌≡◌, ◌==◌, ◌&&◌, ◌||◌, ℕ
 ghost use Rattle.link_closure.specs.Closure.{is_marked};
 ghost use Rattle.link_core.specs.Steps.{flags_from};
 ghost use Rattle.link_rules.specs.Places.{is_number};
-ghost use Rattle.link_rules.specs.Loading.{target, is_loaded};
-ghost use Rattle.link_rules.specs.Flags.{is_fixed, is_non_interposable, is_referenced};
+ghost use Rattle.link_rules.specs.Plain.Loading.{target, is_loaded};
+ghost use Rattle.link_rules.specs.Plain.Flags.{is_fixed, is_non_interposable, is_referenced};
 
 use crate::names::is_loaded;
 use crate::symbols::is_definition;

@@ -1,11 +1,12 @@
 // A whole link.
-ghost use Rattle.std.specs.Prelude.{◌≡◌, ◌⊎◌, ◌≤◌, ◌<◌, ◌^◌, ◌+◌, ◌-◌, ◌*◌, ℕ, List, map, length, Some, None, IfOk, IfErr, IfSome, IfNone};
+ghost use Rattle.std.specs.Prelude.{◌≡◌, ◌⊎◌, ◌≤◌, ◌<◌, ◌^◌, ◌+◌, ◌-◌, ◌*◌, ℕ, List, map, length, Some, None, IfOk, IfErr, IfSome, IfNone, if◌then◌else◌};
 ghost use Rattle.link_core.specs.Found.{found, pair_of};
-ghost use Rattle.link_rules.specs.Lists.{first_definition};
-ghost use Rattle.link_rules.specs.Loading.{target, IsLoaded};
-ghost use Rattle.link_rules.specs.Rivals.{loaded_definitions};
-ghost use Rattle.link_rules.specs.World.{symbols_of};
-ghost use Rattle.link_rules.specs.Answer.{IsLinked, IsRefused, section_count, sections_of, limit_refusal, limit_cause, early_refusal, answer_of};
+ghost use Rattle.link_rules.specs.Plain.Lists.{first_definition};
+ghost use Rattle.link_rules.specs.Plain.Loading.{target, IsLoaded};
+ghost use Rattle.link_rules.specs.Plain.Rivals.{loaded_definitions};
+ghost use Rattle.link_rules.specs.Plain.World.{symbols_of};
+ghost use Rattle.link_rules.specs.Plain.Answer.{IsLinked, IsRefused, limit_refusal, early_refusal, answer_of};
+ghost use Rattle.link_rules.specs.Refusals.{limit_cause, object_limit, section_count};
 ghost use Rattle.link_rules.specs.declared.refusal.LinkError.TheVariants.{Memory};
 
 use crate::answer::{canonical_marks, linked_symbols, loaded_objects, undefined_names};
@@ -17,8 +18,8 @@ use crate::rivals::duplicate_lines;
 use crate::symbols::symbols_of;
 use crate::table::table_of;
 use link_ids::Seq;
-use link_input::{Inputs, Options, ParsedInputObject};
-use link_rules::{LinkError, Linked, Symbol, TooManyKind};
+use link_input::{Inputs, Options, ParsedInputObject, Platform, TooManyKind};
+use link_rules::{LinkError, Linked, Symbol};
 use std::alloc::{AllocError, Global};
 use std::collections::HashMap;
 
@@ -34,9 +35,9 @@ const ID_LIMIT: u128 = 4_294_967_295;
 ///
 /// It is refused with the first of these that holds: `TooMany` objects, sections or symbols; `NoInputs` where there is no
 /// object; `DuplicateSymbols` where two loaded objects define a name. `Memory` may come in place of any answer.
-pub fn link_symbols(
+pub fn link_symbols<P: Platform>(
     alloc: Global,
-    inputs: Inputs,
+    inputs: Inputs<P>,
     options: Options,
     workers: usize,
 ) -> Result<Linked, LinkError>
@@ -49,7 +50,10 @@ pub fn link_symbols(
 }
 
 // Links some objects.
-fn link_objects(alloc: Global, objects: &[ParsedInputObject]) -> Result<Linked, LinkError>
+fn link_objects<P: Platform>(
+    alloc: Global,
+    objects: &[ParsedInputObject<P>],
+) -> Result<Linked, LinkError>
     ensures linked { IfOk result (λ linked. IsLinked objects.now linked) }
     ensures refused { IfErr result (λ error. IsRefused objects.now error ⊎ (error ≡ Memory)) }
 {
@@ -63,7 +67,10 @@ fn link_objects(alloc: Global, objects: &[ParsedInputObject]) -> Result<Linked, 
 }
 
 // Links some objects whose symbols have ids.
-fn link_counted(alloc: Global, objects: &[ParsedInputObject]) -> Result<Linked, LinkError>
+fn link_counted<P: Platform>(
+    alloc: Global,
+    objects: &[ParsedInputObject<P>],
+) -> Result<Linked, LinkError>
     requires early { early_refusal objects.now ≡ None }
     requires fits { length (symbols_of objects.now) < 2 ^ 32 }
     ensures linked { IfOk result (λ linked. IsLinked objects.now linked) }
@@ -74,9 +81,9 @@ fn link_counted(alloc: Global, objects: &[ParsedInputObject]) -> Result<Linked, 
 }
 
 // Links some objects that have these symbols.
-fn link_over(
+fn link_over<P: Platform>(
     alloc: Global,
-    objects: &[ParsedInputObject],
+    objects: &[ParsedInputObject<P>],
     symbols: &[Symbol],
 ) -> Result<Linked, LinkError>
     requires early { early_refusal objects.now ≡ None }
@@ -93,9 +100,9 @@ fn link_over(
 }
 
 // Links some objects of which it is known which are loaded.
-fn link_loaded<'a>(
+fn link_loaded<'a, P: Platform>(
     alloc: Global,
-    objects: &[ParsedInputObject],
+    objects: &[ParsedInputObject<P>],
     symbols: &'a [Symbol],
     firsts: &HashMap<&'a [u8], u32>,
     targets: &[Option<u32>],
@@ -111,7 +118,7 @@ fn link_loaded<'a>(
     ensures refused { IfErr result (λ error. IsRefused objects.now error ⊎ (error ≡ Memory)) }
 {
     let definitions = loaded_definitions(alloc, symbols, loaded)?;
-    let duplicates = duplicate_lines(alloc, objects, symbols, loaded, &definitions)?;
+    let duplicates = duplicate_lines(alloc, objects, symbols, loaded, firsts, &definitions)?;
     if !duplicates.is_empty() {
         return Err(LinkError::DuplicateSymbols(Seq::from_vec(duplicates)));
     }
@@ -128,9 +135,9 @@ fn link_loaded<'a>(
 }
 
 // The answer over symbols of which no two clash.
-fn answer<'a>(
+fn answer<'a, P: Platform>(
     alloc: Global,
-    objects: &[ParsedInputObject],
+    objects: &[ParsedInputObject<P>],
     symbols: &'a [Symbol],
     firsts: &HashMap<&'a [u8], u32>,
     targets: &[Option<u32>],
@@ -161,13 +168,16 @@ fn answer<'a>(
     let objects = loaded_objects(alloc, objects, loaded)?;
     Ok(Linked {
         loaded: Seq::from_vec(objects),
+        kept: Seq::new(alloc),
         symbols: Seq::from_vec(linked),
+        versions: Seq::new(alloc),
         undefined: Seq::from_vec(undefined),
+        missing: Seq::new(alloc),
     })
 }
 
 // More objects, sections or symbols than ids can name.
-fn limit_refusal(objects: &[ParsedInputObject]) -> Option<LinkError>
+fn limit_refusal<P: Platform>(objects: &[ParsedInputObject<P>]) -> Option<LinkError>
     ensures refusal { result ≡ limit_refusal objects.now }
     ensures fits { IfNone result (length (symbols_of objects.now) < 2 ^ 32) }
 {
@@ -194,7 +204,7 @@ fn limit_cause(kind: TooManyKind, limit: u128, count: u128) -> Option<LinkError>
 }
 
 // How many sections the regular objects have.
-fn section_count(objects: &[ParsedInputObject]) -> u128
+fn section_count<P: Platform>(objects: &[ParsedInputObject<P>]) -> u128
     requires { length objects.now < 2 ^ 25 }
     ensures { result ≡ section_count objects.now }
 {
@@ -205,25 +215,25 @@ fn section_count(objects: &[ParsedInputObject]) -> u128
     count
 }
 
-fn sections_of(object: &ParsedInputObject) -> u128
-    ensures value { result ≡ sections_of object.now }
+fn sections_of<P: Platform>(object: &ParsedInputObject<P>) -> u128
+    ensures value { result ≡ (if object.now.object.is_dynamic then 0 else object.now.object.sections) }
     ensures fits { result < 2 ^ 32 }
 {
-    if object.object.is_dynamic {
+    if object.is_dynamic() {
         0
     } else {
-        u128::from(object.object.sections)
+        u128::from(object.object().table().sections)
     }
 }
 
 // How many symbols all files have.
-fn symbol_count(objects: &[ParsedInputObject]) -> u128
+fn symbol_count<P: Platform>(objects: &[ParsedInputObject<P>]) -> u128
     requires { length objects.now < 2 ^ 25 }
     ensures { result ≡ length (symbols_of objects.now) }
 {
     let mut count = 1u128;
     for (_i, object) in objects.iter().enumerate() {
-        count += object.object.symbols.len() as u128;
+        count += object.num_symbols() as u128;
     }
     count
 }

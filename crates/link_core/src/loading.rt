@@ -2,13 +2,14 @@
 ghost use Rattle.std.specs.Prelude.{◌≡◌, ◌<◌, ◌^◌, ℕ, List, not, map, length, None, if◌then◌else◌, IfOk};
 ghost use Rattle.link_core.specs.Edges.{edge_from, edges_in};
 ghost use Rattle.link_core.specs.Found.{found};
-ghost use Rattle.link_rules.specs.World.{symbols_of, is_reference, is_optional};
-ghost use Rattle.link_rules.specs.Lists.{first_definition};
-ghost use Rattle.link_rules.specs.Loading.{target, IsLoaded};
+ghost use Rattle.link_rules.specs.Plain.World.{symbols_of, is_reference};
+ghost use Rattle.link_rules.specs.World.{is_optional};
+ghost use Rattle.link_rules.specs.Plain.Lists.{first_definition};
+ghost use Rattle.link_rules.specs.Plain.Loading.{target, IsLoaded};
 
 use crate::symbols::is_reference;
 use link_closure::{Edge, least_closed};
-use link_input::ParsedInputObject;
+use link_input::{ParsedInputObject, Platform};
 use link_rules::Symbol;
 use std::alloc::{AllocError, Global};
 use std::collections::HashMap;
@@ -39,9 +40,9 @@ fn target_in<'a>(firsts: &HashMap<&'a [u8], u32>, symbol: &'a Symbol) -> Option<
 }
 
 /// The loaded objects, a mark for each.
-pub fn loaded_objects(
+pub fn loaded_objects<P: Platform>(
     alloc: Global,
-    objects: &[ParsedInputObject],
+    objects: &[ParsedInputObject<P>],
     symbols: &[Symbol],
     targets: &[Option<u32>],
 ) -> Result<Vec<bool>, AllocError>
@@ -55,7 +56,10 @@ pub fn loaded_objects(
 }
 
 // The objects that are loaded at first, a mark for each.
-fn roots_of(alloc: Global, objects: &[ParsedInputObject]) -> Result<Vec<bool>, AllocError>
+fn roots_of<P: Platform>(
+    alloc: Global,
+    objects: &[ParsedInputObject<P>],
+) -> Result<Vec<bool>, AllocError>
     ensures { IfOk result (λ roots. roots.items ≡ map (λ o. not (is_optional o)) objects.now) }
 {
     let mut roots = Vec::with_capacity(alloc, objects.len())?;
@@ -66,11 +70,11 @@ fn roots_of(alloc: Global, objects: &[ParsedInputObject]) -> Result<Vec<bool>, A
 }
 
 // It is loaded only where it is asked for.
-fn is_optional(object: &ParsedInputObject) -> bool
+fn is_optional<P: Platform>(object: &ParsedInputObject<P>) -> bool
     ensures { result ≡ is_optional object.now }
 {
-    let modifiers = object.modifiers;
-    modifiers.archive && !modifiers.whole_archive || object.object.is_dynamic && modifiers.as_needed
+    let modifiers = object.modifiers();
+    modifiers.archive && !modifiers.whole_archive || object.is_dynamic() && modifiers.as_needed
 }
 
 // Each edge that a reference makes from its object to that of its target.

@@ -3,10 +3,10 @@
 ghost use Rattle.std.specs.Prelude.{◌≡◌, ◌&&◌, ℕ, ◌<◌, ◌^◌, List, Some, IfOk, OnOk, length, if◌then◌else◌, map, option_map};
 ghost use Rattle.std.specs.Str.{bytes_eq};
 ghost use Rattle.link_core.specs.Found.{found, kept_first, noted, pair_of, is_left_with};
-ghost use Rattle.link_rules.specs.Lists.{first_definition};
-ghost use Rattle.link_rules.specs.Loading.{target, is_loaded};
-ghost use Rattle.link_rules.specs.Rivals.{loaded_definitions};
-ghost use Rattle.link_rules.specs.Undefined.{canonical_undefined};
+ghost use Rattle.link_rules.specs.Plain.Lists.{first_definition};
+ghost use Rattle.link_rules.specs.Plain.Loading.{target, is_loaded};
+ghost use Rattle.link_rules.specs.Plain.Rivals.{loaded_definitions};
+ghost use Rattle.link_rules.specs.Plain.Undefined.{canonical_undefined};
 
 use crate::symbols::{is_listed, is_reference};
 use link_rules::Symbol;

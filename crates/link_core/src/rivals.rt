@@ -1,91 +1,115 @@
 // Names that two loaded objects define.
-ghost use Rattle.std.specs.Prelude.{◌≡◌, ◌++◌, ℕ, ◌<◌, ◌^◌, List, Option, Some, None, IfOk, OnOk, length, option_map, option_and_then, option_to_list, slice_get};
+ghost use Rattle.std.specs.Prelude.{◌≡◌, ◌++◌, ◌&&◌, if◌then◌else◌, ℕ, ◌<◌, ◌^◌, List, Option, Some, None, IfOk, OnOk, length, option_map, option_and_then, option_to_list, slice_get};
 ghost use Rattle.link_ids.specs.NameText.{name_text};
 ghost use Rattle.link_core.specs.Found.{found, pair_of};
-ghost use Rattle.link_core.specs.Steps.{rival_in, duplicate_from};
-ghost use Rattle.link_rules.specs.World.{symbols_of};
-ghost use Rattle.link_rules.specs.Loading.{object_of};
-ghost use Rattle.link_rules.specs.Rivals.{loaded_definitions, duplicates, duplicate_line, file_name, IsSortedTexts};
+ghost use Rattle.link_core.specs.Steps.{two_in, duplicate_from};
+ghost use Rattle.link_rules.specs.Places.{is_number};
+ghost use Rattle.link_rules.specs.Plain.Lists.{first_definition, is_listed};
+ghost use Rattle.link_rules.specs.Plain.World.{symbols_of};
+ghost use Rattle.link_rules.specs.Plain.Loading.{object_of};
+ghost use Rattle.link_rules.specs.Plain.Rivals.{loaded_definitions, duplicates, duplicate_line, file_name};
+ghost use Rattle.link_rules.specs.Sorting.{IsSortedTexts};
 
+use crate::answer::is_number;
 use crate::names::LoadedDefinitions;
 use crate::symbols::is_listed;
 use link_ids::Name;
-use link_input::ParsedInputObject;
+use link_input::{ParsedInputObject, Platform};
 use link_rules::Symbol;
 use std::alloc::{AllocError, Global};
 use std::collections::HashMap;
 
 /// A line for each name that two loaded objects define, in the order of their bytes.
-pub fn duplicate_lines<'a>(
+pub fn duplicate_lines<'a, P: Platform>(
     alloc: Global,
-    objects: &[ParsedInputObject],
+    objects: &[ParsedInputObject<P>],
     symbols: &'a [Symbol],
     loaded: &[bool],
+    firsts: &HashMap<&'a [u8], u32>,
     definitions: &HashMap<&'a [u8], LoadedDefinitions>,
 ) -> Result<Vec<Name>, AllocError>
     requires symbols { symbols.now ≡ symbols_of objects.now }
     requires fits { length symbols.now < 2 ^ 32 }
+    requires firsts { (name : List ℕ) → found firsts.now name ≡ first_definition symbols.now name }
     requires definitions { (name : List ℕ) → found definitions.now name ≡ pair_of (loaded_definitions symbols.now loaded.now name) }
     ensures { IfOk result (λ lines. IsSortedTexts (duplicates objects.now loaded.now) lines.items) }
 {
-    let mut lines = duplicates_of(alloc, objects, symbols, loaded, definitions)?;
+    let mut lines = duplicates_of(alloc, objects, symbols, loaded, firsts, definitions)?;
     lines.sort()?;
     Ok(lines)
 }
 
 // The same, in the order of the first definitions.
-fn duplicates_of<'a>(
+fn duplicates_of<'a, P: Platform>(
     alloc: Global,
-    objects: &[ParsedInputObject],
+    objects: &[ParsedInputObject<P>],
     symbols: &'a [Symbol],
     loaded: &[bool],
+    firsts: &HashMap<&'a [u8], u32>,
     definitions: &HashMap<&'a [u8], LoadedDefinitions>,
 ) -> Result<Vec<Name>, AllocError>
     requires symbols { symbols.now ≡ symbols_of objects.now }
     requires fits { length symbols.now < 2 ^ 32 }
+    requires firsts { (name : List ℕ) → found firsts.now name ≡ first_definition symbols.now name }
     requires definitions { (name : List ℕ) → found definitions.now name ≡ pair_of (loaded_definitions symbols.now loaded.now name) }
     ensures { IfOk result (λ lines. lines.items ≡ duplicates objects.now loaded.now) }
 {
     let _loaded = loaded.len();
     let mut lines = Vec::new(alloc);
     for (i, symbol) in symbols.iter().enumerate() {
+        let first = firsts.get(&symbol.name.as_slice()).copied();
         let known = definitions.get(&symbol.name.as_slice()).copied();
-        let line = duplicate_at(alloc, objects, symbols, known, i as u32, symbol)?;
+        let line = duplicate_at(alloc, objects, symbols, first, known, i as u32, symbol)?;
         push_some(&mut lines, line)?;
     }
     Ok(lines)
 }
 
-fn duplicate_at(
+fn duplicate_at<P: Platform>(
     alloc: Global,
-    objects: &[ParsedInputObject],
+    objects: &[ParsedInputObject<P>],
     symbols: &[Symbol],
+    first: Option<u32>,
     known: Option<LoadedDefinitions>,
     id: u32,
     symbol: &Symbol,
 ) -> Result<Option<Name>, AllocError>
-    ensures { IfOk result (λ line. line ≡ duplicate_from objects.now symbols.now known id symbol.now) }
+    ensures { IfOk result (λ line. line ≡ duplicate_from objects.now symbols.now first known id symbol.now) }
 {
-    if !is_listed(symbol) {
-        return Ok(None);
-    }
-    let Some(rival) = rival_in(known, id) else {
+    let Some((first, second)) = clash(first, known, id, symbol) else {
         return Ok(None);
     };
-    let other = object_of(symbols, rival);
-    let line = duplicate_line(alloc, &symbol.name, objects, symbol.object, other)?;
+    let line = duplicate_line(
+        alloc,
+        &symbol.name,
+        objects,
+        object_of(symbols, first),
+        object_of(symbols, second),
+    )?;
     Ok(Some(line))
 }
 
-fn rival_in(known: Option<LoadedDefinitions>, id: u32) -> Option<u32>
-    ensures { result ≡ rival_in known id }
+// The two definitions that clash, told at the first definition of the name.
+fn clash(
+    first: Option<u32>,
+    known: Option<LoadedDefinitions>,
+    id: u32,
+    symbol: &Symbol,
+) -> Option<(u32, u32)>
+    ensures { result ≡ (if is_listed symbol.now && is_number first id then two_in known else None) }
 {
-    let known = known?;
-    if known.first == id {
-        known.second
+    if is_listed(symbol) && is_number(first, id) {
+        two_in(known)
     } else {
         None
     }
+}
+
+fn two_in(known: Option<LoadedDefinitions>) -> Option<(u32, u32)>
+    ensures { result ≡ two_in known }
+{
+    let known = known?;
+    Some((known.first, known.second?))
 }
 
 fn object_of(symbols: &[Symbol], id: u32) -> Option<usize>
@@ -94,10 +118,10 @@ fn object_of(symbols: &[Symbol], id: u32) -> Option<usize>
     symbols.get(id as usize)?.object
 }
 
-fn duplicate_line(
+fn duplicate_line<P: Platform>(
     alloc: Global,
     name: &Name,
-    objects: &[ParsedInputObject],
+    objects: &[ParsedInputObject<P>],
     first: Option<usize>,
     second: Option<usize>,
 ) -> Result<Name, AllocError>
@@ -120,21 +144,24 @@ fn push_name(alloc: Global, line: &mut Vec<u8>, name: &Name) -> Result<(), Alloc
     Ok(())
 }
 
-fn push_file_name(
+fn push_file_name<P: Platform>(
     alloc: Global,
     line: &mut Vec<u8>,
-    objects: &[ParsedInputObject],
+    objects: &[ParsedInputObject<P>],
     object: Option<usize>,
 ) -> Result<(), AllocError>
     ensures { OnOk result (line.new.items ≡ line.old.items ++ name_text (file_name objects.now object)) }
 {
     match file_at(objects, object) {
         None => Ok(()),
-        Some(file) => push_name(alloc, line, &file.input),
+        Some(file) => push_name(alloc, line, file.input()),
     }
 }
 
-fn file_at(objects: &[ParsedInputObject], object: Option<usize>) -> Option<&ParsedInputObject>
+fn file_at<P: Platform>(
+    objects: &[ParsedInputObject<P>],
+    object: Option<usize>,
+) -> Option<&ParsedInputObject<P>>
     ensures { option_map (λ o. o.now) result ≡ option_and_then (slice_get objects.now) object }
 {
     objects.get(object?)

@@ -1,10 +1,10 @@
 // The symbols of all files, one after another.
 ghost use Rattle.std.specs.Prelude.{◌≡◌, ◌++◌, ◌<◌, ◌^◌, map, length, IfOk, OnOk};
-ghost use Rattle.link_rules.specs.World.{undefined_symbol, symbol_of, symbols_of, is_definition, is_reference};
-ghost use Rattle.link_rules.specs.Lists.{is_listed};
+ghost use Rattle.link_rules.specs.Plain.World.{undefined_symbol, symbol_of, symbols_of, is_definition, is_reference};
+ghost use Rattle.link_rules.specs.Plain.Lists.{is_listed};
 
 use link_ids::Name;
-use link_input::{ParsedInputObject, Place, SymbolBinding, SymbolEntry};
+use link_input::{ParsedInputObject, Place, Platform, SymbolBinding, SymbolEntry};
 use link_rules::Symbol;
 use std::alloc::{AllocError, Global};
 
@@ -30,13 +30,21 @@ pub fn is_listed(symbol: &Symbol) -> bool
 }
 
 /// The symbols of all files: a symbol's id is its place here.
-pub fn symbols_of(alloc: Global, objects: &[ParsedInputObject]) -> Result<Vec<Symbol>, AllocError>
+pub fn symbols_of<P: Platform>(
+    alloc: Global,
+    objects: &[ParsedInputObject<P>],
+) -> Result<Vec<Symbol>, AllocError>
     ensures { IfOk result (λ symbols. symbols.items ≡ symbols_of objects.now) }
 {
     let mut symbols = Vec::new(alloc);
     symbols.push(undefined_symbol(alloc))?;
     for (i, object) in objects.iter().enumerate() {
-        push_symbols(alloc, &mut symbols, i, object.object.symbols.as_slice())?;
+        push_symbols(
+            alloc,
+            &mut symbols,
+            i,
+            object.object().table().symbols.as_slice(),
+        )?;
     }
     Ok(symbols)
 }

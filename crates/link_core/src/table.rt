@@ -3,11 +3,11 @@ ghost use Rattle.std.specs.Prelude.{◌≡◌, ℕ, ◌<◌, ◌^◌, List, map,
 ghost use Rattle.std.specs.Option.{option_or};
 ghost use Rattle.link_core.specs.Found.{found, pair_of};
 ghost use Rattle.link_core.specs.Steps.{entry_from, first_in};
-ghost use Rattle.link_rules.specs.Lists.{first_definition};
-ghost use Rattle.link_rules.specs.Loading.{target};
-ghost use Rattle.link_rules.specs.Rivals.{loaded_definitions};
-ghost use Rattle.link_rules.specs.Undefined.{canonical_undefined};
-ghost use Rattle.link_rules.specs.Table.{table_of, definition};
+ghost use Rattle.link_rules.specs.Plain.Lists.{first_definition};
+ghost use Rattle.link_rules.specs.Plain.Loading.{target};
+ghost use Rattle.link_rules.specs.Plain.Rivals.{loaded_definitions};
+ghost use Rattle.link_rules.specs.Plain.Undefined.{canonical_undefined};
+ghost use Rattle.link_rules.specs.Plain.Table.{table_of, definition};
 
 use crate::names::{LoadedDefinitions, is_loaded};
 use crate::symbols::{is_definition, is_listed, is_reference};

@@ -2,19 +2,24 @@
 use crate::link_symbols;
 use link_ids::{Name, Seq, Visibility};
 use link_input::{
-    Inputs, Modifiers, ObjectTable, Options, ParsedInputObject, Place, SymbolBinding, SymbolEntry,
-    SymbolKind,
+    ElfLike, InputObject, Inputs, Modifiers, ObjectTable, Options, ParsedInputObject, Place,
+    SymbolBinding, SymbolEntry, SymbolKind, TableError,
 };
 use link_rules::LinkError;
 use std::alloc::{AllocError, Global};
 use std::test::Fail;
 
-fn entry(alloc: Global, name: &str, place: Place) -> Result<SymbolEntry, AllocError> {
+fn entry(
+    alloc: Global,
+    name: &str,
+    binding: SymbolBinding,
+    place: Place,
+) -> Result<SymbolEntry, AllocError> {
     Ok(SymbolEntry {
         name: Name::from_slice(alloc, name.as_bytes())?,
         version: None,
         is_default: true,
-        binding: SymbolBinding::Global,
+        binding,
         visibility: Visibility::Default,
         kind: SymbolKind::Plain,
         size: 0,
@@ -22,42 +27,39 @@ fn entry(alloc: Global, name: &str, place: Place) -> Result<SymbolEntry, AllocEr
     })
 }
 
-// An object of one symbol, which may be a member of an archive.
+// An object of a null entry and one global symbol, which may be a member of an archive.
 fn object(
     alloc: Global,
     file: &str,
     archive: bool,
-    symbol: SymbolEntry,
-) -> Result<ParsedInputObject, AllocError> {
+    place: Place,
+) -> Result<ParsedInputObject<ElfLike>, TableError> {
     let mut symbols = Seq::new(alloc);
-    symbols.push(symbol)?;
-    Ok(ParsedInputObject {
-        input: Name::from_slice(alloc, file.as_bytes())?,
-        object: ObjectTable {
-            is_dynamic: false,
-            lib_name: Name::from_slice(alloc, file.as_bytes())?,
-            sections: 2,
-            symbols,
-            groups: Seq::new(alloc),
-        },
-        modifiers: Modifiers {
+    symbols.push(entry(alloc, "", SymbolBinding::Local, Place::Undefined)?)?;
+    symbols.push(entry(alloc, "foo", SymbolBinding::Global, place)?)?;
+    let table = ObjectTable {
+        is_dynamic: false,
+        lib_name: Name::from_slice(alloc, file.as_bytes())?,
+        sections: 2,
+        symbols,
+        groups: Seq::new(alloc),
+    };
+    Ok(ParsedInputObject::new(
+        Name::from_slice(alloc, file.as_bytes())?,
+        InputObject::new(alloc, table)?,
+        Modifiers {
             archive,
             whole_archive: false,
             as_needed: false,
         },
-    })
+    ))
 }
 
 // Two objects: one with an undefined foo, or with a definition of its own, and one that defines foo.
-fn two_objects(alloc: Global, first: Place, archive: bool) -> Result<Inputs, AllocError> {
+fn two_objects(alloc: Global, first: Place, archive: bool) -> Result<Inputs<ElfLike>, TableError> {
     let mut objects = Seq::new(alloc);
-    objects.push(object(alloc, "main.o", false, entry(alloc, "foo", first)?)?)?;
-    objects.push(object(
-        alloc,
-        "a.o",
-        archive,
-        entry(alloc, "foo", Place::Section(1))?,
-    )?)?;
+    objects.push(object(alloc, "main.o", false, first)?)?;
+    objects.push(object(alloc, "a.o", archive, Place::Section(1))?)?;
     Ok(Inputs {
         objects,
         scripts: Seq::new(alloc),
@@ -71,12 +73,12 @@ fn an_answer_and_each_refusal(rt: HostRuntime) -> Result<(), Fail> {
     let asked = two_objects(alloc, Place::Undefined, true)?;
     let linked = link_symbols(alloc, asked, Options::new(alloc), 2);
     assert!(rt;
-        matches!(&linked, Ok(linked) if linked.loaded.len() == 2 && linked.symbols.len() == 3)
+        matches!(&linked, Ok(linked) if linked.loaded.len() == 2 && linked.symbols.len() == 5)
     );
     let clash = two_objects(alloc, Place::Section(1), false)?;
     let refused = link_symbols(alloc, clash, Options::new(alloc), 1);
     assert!(rt; matches!(&refused, Err(LinkError::DuplicateSymbols(lines)) if lines.len() == 1));
-    let none = Inputs {
+    let none: Inputs<ElfLike> = Inputs {
         objects: Seq::new(alloc),
         scripts: Seq::new(alloc),
         stubs: Seq::new(alloc),

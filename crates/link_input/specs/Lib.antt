@@ -5,3 +5,10 @@ pub mod Outputs
 pub mod Locations
 pub mod RedirectText
 pub mod Segments
+pub mod Interposition
+pub mod ObjectFile
+pub mod Checks
+pub mod TableErrorText
+pub mod TableExamples
+pub mod PreludeSymbols
+pub mod Adding

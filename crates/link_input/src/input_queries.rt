@@ -1,36 +1,8 @@
-// What inputs are called, and how many symbols they have.
+// What linker scripts and stub libraries are called, and how many symbols they have.
 ghost use Rattle.std.specs.Prelude.{◌≡◌, ◌+◌, length};
 
-use crate::object::ParsedInputObject;
 use crate::world::{ProcessedLinkerScript, StubLibrary};
 use std::fmt;
-
-impl ParsedInputObject {
-    /// It is a shared object.
-    pub fn is_dynamic(&self) -> bool
-        ensures { result ≡ self.now.object.is_dynamic }
-    {
-        self.object.is_dynamic
-    }
-
-    /// How many entries its symbol table has.
-    pub fn num_symbols(&self) -> usize
-        ensures { result ≡ length self.now.object.symbols }
-    {
-        self.object.symbols.len()
-    }
-}
-
-impl fmt::Display for ParsedInputObject {
-    ghost use Rattle.std.specs.Prelude.{Some};
-    ghost use Rattle.link_ids.specs.NameText.{name_text};
-
-    ghost output = { λ o. Some (name_text o.input) };
-
-    fn fmt<W: fmt::Write>(&self, f: &mut fmt::Formatter<W>) -> fmt::Result {
-        self.input.fmt(f)
-    }
-}
 
 impl ProcessedLinkerScript {
     /// How many symbols it defines.

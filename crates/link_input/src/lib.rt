@@ -1,24 +1,42 @@
 //! What a link is given: the symbol tables of objects, linker scripts, stub libraries, and the options.
 #![tactic(auto)]
 
+mod builder;
+mod checks;
+mod copies;
 mod input_queries;
 mod internal_symbols;
 mod object;
 mod options;
 mod output_queries;
+mod parsed_object;
 mod placement_queries;
+mod platform;
+mod prelude;
 mod segment_name;
 mod symbol_entry;
 mod symbol_queries;
+mod table_error;
+mod table_laws;
+#[cfg(test)]
+mod table_tests;
 #[cfg(test)]
 mod tests;
+mod too_many;
 mod world;
 
+pub use builder::InternalSymbolsBuilder;
 pub use internal_symbols::{
     InternalSymDefInfo, LocationCounter, Redirect, RedirectKind, SymbolLoc, SymbolPlacement,
 };
-pub use object::{Modifiers, ObjectTable, ParsedInputObject, SectionGroup};
+pub use object::{InputObject, ObjectTable, SectionGroup};
 pub use options::{Options, OutputKind};
+pub use parsed_object::{Modifiers, ParsedInputObject};
+pub use platform::{ElfLike, MachLike, Platform};
+pub use prelude::Prelude;
 pub use segment_name::SegmentName;
 pub use symbol_entry::{Place, SymbolBinding, SymbolEntry, SymbolKind};
+pub use table_error::TableError;
+pub use table_laws::{accepted_tables, checked_tables};
+pub use too_many::TooManyKind;
 pub use world::{Inputs, ProcessedLinkerScript, Scripts, StubLibrary, World};

@@ -1,6 +1,16 @@
 // Objects with their symbol tables.
+ghost use Rattle.std.specs.Prelude.{◌≡◌, ◌<◌, ◌⊎◌, Some, None, IfOk, IfErr, IfSome, OnOk, All, length, option_map, option_and_then, slice_get};
+ghost use Rattle.link_input.specs.declared.table_error.TableError.TheVariants.{Memory};
+ghost use Rattle.link_input.specs.Entries.{section_of};
+ghost use Rattle.link_input.specs.Checks.{first_fault};
+
+use crate::checks::first_fault;
+use crate::platform::Platform;
 use crate::symbol_entry::SymbolEntry;
-use link_ids::{Name, Seq};
+use crate::table_error::TableError;
+use link_ids::{Name, SectionIndex, Seq, SymbolIndex};
+use std::alloc::Global;
+use std::marker::{Model, PhantomData};
 
 /// A section group (ELF gABI, "Section Groups"): its header section, the symbol whose name is its signature, and its
 /// members in order.
@@ -13,6 +23,15 @@ pub struct SectionGroup {
     /// Of the groups of one signature only one is kept (`GRP_COMDAT`).
     pub is_comdat: bool,
     pub members: Seq<u32>,
+}
+
+impl SectionGroup {
+    /// Its members, in order.
+    pub fn members(&self) -> &[u32]
+        ensures { result.now ≡ self.now.members }
+    {
+        self.members.as_slice()
+    }
 }
 
 /// What is read of an object: a regular one, or a shared object.
@@ -28,21 +47,157 @@ pub struct ObjectTable {
     pub groups: Seq<SectionGroup>,
 }
 
-/// How an object was named on the command line. Mirrors Wild's `Modifiers` and its archive semantics.
-#[derive(Clone, Copy, Debug, PartialEq, Eq)]
-pub struct Modifiers {
-    /// It is a member of an archive, which is taken only where it is asked for.
-    pub archive: bool,
-    /// All members of its archive are taken (`--whole-archive`).
-    pub whole_archive: bool,
-    /// A shared object is taken only where it is asked for (`--as-needed`).
-    pub as_needed: bool,
+/// The table of an object of a platform, once it is checked. A contract sees the table.
+#[derive(Drop)]
+pub struct InputObject<P: Platform> {
+    table: ObjectTable,
+    platform: PhantomData<P>,
 }
 
-/// An object with the name of its file.
-#[derive(Debug, Drop)]
-pub struct ParsedInputObject {
-    pub input: Name,
-    pub object: ObjectTable,
-    pub modifiers: Modifiers,
+impl<P: Platform> Model for InputObject<P> {
+    ghost use Rattle.std.specs.Prelude.{◌≡◌, None};
+    ghost use Rattle.link_input.specs.declared.object.ObjectTable.{ObjectTable};
+    ghost use Rattle.link_input.specs.Checks.{first_fault};
+
+    ghost Value = { ObjectTable };
+
+    ghost view = { λ o. o.table };
+
+    ghost invariant = { λ o. first_fault P.HAS_NULL_SYMBOL_ENTRY o.table ≡ None };
+}
+
+impl<P: Platform> InputObject<P> {
+    /// The table as an object, where it passes every check. Otherwise the first check that it fails, each over the whole
+    /// table before the next, with the least place where it fails:
+    ///
+    /// 1. `NullEntry`: the platform has a null entry, the table has symbols, and entry 0 isn't null (`SymbolEntry::is_null`).
+    /// 2. `UndefinedLocal(symbol)`: the symbol is undefined and local; entry 0 is let off where the platform has a null entry.
+    /// 3. `VersionlessNotDefault(symbol)`: the symbol has no version and is not default.
+    /// 4. `SectionRange(symbol)`: its section is not below the number of sections.
+    /// 5. `SignatureRange(group)`: the group's signature is not below the number of symbols.
+    /// 6. `MemberRange { group, section }`: the group's header, else its first such member, is not below the number of sections.
+    /// 7. `HeaderTwice(group)`: the group's header is the header of an earlier group.
+    /// 8. `HeaderIsMember(group)`: the group's header is a member of a group, of itself or of another.
+    ///
+    /// `Memory` may come in place of any answer, where memory ran out. A table of no symbols and no groups passes.
+    pub fn new(alloc: Global, table: ObjectTable) -> Result<Self, TableError>
+        ensures ok { IfOk result (λ object. object ≡ table) }
+        ensures checked { OnOk result (first_fault P.HAS_NULL_SYMBOL_ENTRY table ≡ None) }
+        ensures err { IfErr result (λ error. (first_fault P.HAS_NULL_SYMBOL_ENTRY table ≡ Some error) ⊎ (error ≡ Memory)) }
+    {
+        if let Some(fault) = first_fault(alloc, P::HAS_NULL_SYMBOL_ENTRY, &table)? {
+            return Err(fault);
+        }
+        Ok(InputObject {
+            table,
+            platform: PhantomData,
+        })
+    }
+
+    /// What was read of it.
+    pub fn table(&self) -> &ObjectTable
+        ensures { result.now ≡ self.now }
+    {
+        &self.table
+    }
+
+    /// It is a shared object.
+    pub fn is_dynamic(&self) -> bool
+        ensures { result ≡ self.now.is_dynamic }
+    {
+        self.table.is_dynamic
+    }
+
+    /// The name by which a program asks for the shared object at run time.
+    pub fn lib_name(&self) -> &Name
+        ensures { result.now ≡ self.now.lib_name }
+    {
+        &self.table.lib_name
+    }
+
+    /// How many sections it has.
+    pub fn num_sections(&self) -> u32
+        ensures { result ≡ self.now.sections }
+    {
+        self.table.sections
+    }
+
+    /// How many entries its symbol table has.
+    pub fn num_symbols(&self) -> usize
+        ensures { result ≡ length self.now.symbols }
+    {
+        self.table.symbols.len()
+    }
+
+    /// The entries of its symbol table, in order.
+    pub fn symbols(&self) -> &[SymbolEntry]
+        ensures { result.now ≡ self.now.symbols }
+    {
+        self.table.symbols.as_slice()
+    }
+
+    /// Its section groups, in order.
+    pub fn groups(&self) -> &[SectionGroup]
+        ensures { result.now ≡ self.now.groups }
+    {
+        self.table.groups.as_slice()
+    }
+
+    /// The entry at this place of its symbol table. `num_symbols` is the test.
+    pub fn symbol(&self, index: SymbolIndex) -> &SymbolEntry
+        requires { index < length self.now.symbols }
+        ensures { slice_get self.now.symbols index ≡ Some result.now }
+    {
+        let symbols = self.table.symbols.as_slice();
+        &symbols[index.as_usize()]
+    }
+
+    /// The section that the symbol at this place stands in, one of the object's. `num_symbols` is the test.
+    pub fn section(&self, index: SymbolIndex) -> Option<SectionIndex>
+        requires { index < length self.now.symbols }
+        ensures place { option_map (λ symbol. section_of symbol.place) (slice_get self.now.symbols index) ≡ Some result }
+        ensures below { IfSome result (λ section. section < self.now.sections) }
+    {
+        let symbols = self.table.symbols.as_slice();
+        symbols[index.as_usize()].section()
+    }
+
+    /// The section group at this place: its signature is a symbol of the object, and its header and members are sections
+    /// of it.
+    pub fn group(&self, group: usize) -> &SectionGroup
+        requires { group < length self.now.groups }
+        ensures group { slice_get self.now.groups group ≡ Some result.now }
+        ensures signature { result.now.signature_symbol < length self.now.symbols }
+        ensures header { result.now.index < self.now.sections }
+        ensures members { All (λ member. member < self.now.sections) result.now.members }
+    {
+        let groups = self.table.groups.as_slice();
+        &groups[group]
+    }
+
+    /// The symbol whose name is the signature of the group at this place.
+    pub fn signature(&self, group: usize) -> &SymbolEntry
+        requires { group < length self.now.groups }
+        ensures { option_and_then (λ g. slice_get self.now.symbols g.signature_symbol) (slice_get self.now.groups group) ≡ Some result.now }
+    {
+        self.symbol(SymbolIndex::new(self.group(group).signature_symbol))
+    }
+
+    /// The header section of the group at this place, one of the object's.
+    pub fn header(&self, group: usize) -> u32
+        requires { group < length self.now.groups }
+        ensures header { option_map (λ g. g.index) (slice_get self.now.groups group) ≡ Some result }
+        ensures below { result < self.now.sections }
+    {
+        self.group(group).index
+    }
+
+    /// The members of the group at this place, in order: sections of the object.
+    pub fn members(&self, group: usize) -> &[u32]
+        requires { group < length self.now.groups }
+        ensures members { option_map (λ g. g.members) (slice_get self.now.groups group) ≡ Some result.now }
+        ensures below { All (λ member. member < self.now.sections) result.now }
+    {
+        self.group(group).members()
+    }
 }

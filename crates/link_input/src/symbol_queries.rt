@@ -2,11 +2,24 @@
 ghost use Rattle.std.specs.Prelude.{◌≡◌};
 ghost use Rattle.link_input.specs.Entries.{is_undefined, is_absolute, is_common, section_of, is_func, is_ifunc, is_tls, is_local, is_weak, is_hidden};
 ghost use Rattle.link_input.specs.BindingStrength.{binding_strength};
+ghost use Rattle.link_input.specs.Checks.{is_null};
 
 use crate::symbol_entry::{Place, SymbolBinding, SymbolEntry, SymbolKind};
 use link_ids::{SectionIndex, SymbolStrength, Visibility};
 
 impl SymbolEntry {
+    /// It stands for no symbol (ELF gABI, "Symbol Table", index 0): undefined, local, of the empty name and no version, and
+    /// of default visibility.
+    pub fn is_null(&self) -> bool
+        ensures { result ≡ is_null self.now }
+    {
+        self.is_undefined()
+            && self.is_local()
+            && self.name.is_empty()
+            && matches!(self.visibility, Visibility::Default)
+            && self.version.is_none()
+    }
+
     /// It refers to a symbol of its name, and defines none (`SHN_UNDEF`).
     pub fn is_undefined(&self) -> bool
         ensures { result ≡ is_undefined self.now.place }

@@ -1,4 +1,4 @@
-// Tests of what no contract says.
+// Tests of the texts of redirects.
 use crate::RedirectKind;
 use link_ids::Name;
 use std::test::Fail;

@@ -1,7 +1,8 @@
 // The files of a link, and all that goes with them.
 use crate::internal_symbols::InternalSymDefInfo;
-use crate::object::ParsedInputObject;
 use crate::options::Options;
+use crate::parsed_object::ParsedInputObject;
+use crate::platform::Platform;
 use link_ids::{Name, Seq};
 
 /// A linker script, of which its entry, its version script and its symbols are kept.
@@ -23,9 +24,9 @@ pub struct StubLibrary {
 }
 
 /// The files of a link, each kind in the order of the command line.
-#[derive(Debug, Drop)]
-pub struct Inputs {
-    pub objects: Seq<ParsedInputObject>,
+#[derive(Drop)]
+pub struct Inputs<P: Platform> {
+    pub objects: Seq<ParsedInputObject<P>>,
     pub scripts: Seq<ProcessedLinkerScript>,
     pub stubs: Seq<StubLibrary>,
 }
@@ -37,10 +38,10 @@ pub struct Scripts {
     pub export_list: Option<Name>,
 }
 
-/// All that a link is given.
-#[derive(Debug, Drop)]
-pub struct World {
-    pub inputs: Inputs,
+/// All that a link on a platform is given.
+#[derive(Drop)]
+pub struct World<P: Platform> {
+    pub inputs: Inputs<P>,
     pub options: Options,
     pub scripts: Scripts,
 }

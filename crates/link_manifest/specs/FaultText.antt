@@ -2,12 +2,13 @@
 use Rattle.std.specs.Prelude.{ℕ, List, [], ◌∷◌, ◌++◌, codes, decimal}
 use Rattle.std.specs.List.{flat_map}
 use Rattle.link_ids.specs.NameText.{name_text}
+use Rattle.link_input.specs.TableErrorText.{table_error_text}
 use Rattle.link_manifest.specs.declared.fault.Step.{Step}
 use Rattle.link_manifest.specs.declared.fault.Step.TheVariants.{Key, Item}
 use Rattle.link_manifest.specs.declared.fault.Kind.{Kind}
 use Rattle.link_manifest.specs.declared.fault.Kind.TheVariants.{Object, List as a_list, Text, Bytes, Bool, Number, Place}
 use Rattle.link_manifest.specs.declared.fault.Problem.{Problem}
-use Rattle.link_manifest.specs.declared.fault.Problem.TheVariants.{TooLong, NotJson, UnknownKey, Missing, Expected, NoSuchSection}
+use Rattle.link_manifest.specs.declared.fault.Problem.TheVariants.{TooLong, NotJson, UnknownKey, Missing, Expected, Table}
 use Rattle.link_manifest.specs.declared.fault.ManifestFault.{ManifestFault}
 
 -- what a value has to be
@@ -27,7 +28,7 @@ problem_text NotJson = codes "not JSON"
 problem_text UnknownKey = codes "unknown key"
 problem_text Missing = codes "missing"
 problem_text (Expected kind) = codes "expected " ++ kind_text kind
-problem_text (NoSuchSection symbol) = codes "symbol " ++ decimal symbol ++ codes " has no such section"
+problem_text (Table error) = table_error_text error
 
 -- the first step of a path
 abbrev pub first_step_text : Step → List ℕ

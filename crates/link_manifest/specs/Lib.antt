@@ -1,3 +1,4 @@
 pub mod FaultText
 pub mod Reading
+pub mod Values
 pub mod Manifest

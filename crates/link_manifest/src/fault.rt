@@ -5,6 +5,7 @@ ghost use Rattle.link_manifest.specs.declared.fault.ManifestError.TheVariants.{M
 ghost use Rattle.link_manifest.specs.FaultText.{kind_text, problem_text, first_step_text, step_text, path_text, fault_text};
 
 use link_ids::{Name, Seq};
+use link_input::TableError;
 use std::alloc::{AllocError, AllocFailed};
 use std::fmt;
 
@@ -26,11 +27,11 @@ pub enum Kind {
     List,
     /// A JSON text.
     Text,
-    /// Bytes, given as a JSON text.
+    /// Bytes: a JSON text, or an object with the one key `hex` and a text of hexadecimal digits, two for each byte.
     Bytes,
     /// `true` or `false`.
     Bool,
-    /// A whole number without fraction or exponent, at most 2^32 - 1.
+    /// A whole number without fraction or exponent, in the range of its key: 0 to 2^32 - 1 where no other is given.
     Number,
     /// `undefined`, or the number of a section.
     Place,
@@ -49,8 +50,8 @@ pub enum Problem {
     Missing,
     /// The value is not of this kind.
     Expected(Kind),
-    /// The symbol with this place in an object's table stands in a section that the object lacks.
-    NoSuchSection(usize),
+    /// The table of an object fails a check, and this is the first.
+    Table(TableError),
 }
 
 /// What is wrong in a manifest, and where. The path leads from the root, which has the empty one.
@@ -117,7 +118,7 @@ impl fmt::Display for Problem {
             Problem::UnknownKey => f.write_str("unknown key"),
             Problem::Missing => f.write_str("missing"),
             Problem::Expected(kind) => write!(f, "expected {kind}"),
-            Problem::NoSuchSection(symbol) => write!(f, "symbol {symbol} has no such section"),
+            Problem::Table(error) => write!(f, "{error}"),
         }
     }
 }

@@ -5,15 +5,18 @@
 //! walked from its root, and the first fault on that walk counts.
 #![tactic(auto)]
 
+mod contents;
 mod fault;
 mod laws;
 mod manifest;
+mod path;
 mod reading;
 mod tables;
 #[cfg(test)]
 mod tests;
+mod values;
 mod walk;
 
 pub use fault::{Kind, ManifestError, ManifestFault, Problem, Step};
-pub use laws::{read_manifests, written_faults};
+pub use laws::{read_manifests, refused_manifests, written_faults};
 pub use manifest::{MAX_BYTES, Manifest, manifest_of};

@@ -1,51 +1,59 @@
-// The symbol tables of a manifest that is read.
-ghost use Rattle.std.specs.Prelude.{◌≡◌, position};
-ghost use Rattle.link_manifest.specs.Manifest.{is_out_of, table_checked, tables_checked, none_at_fault};
-ghost use Rattle.link_manifest.specs.Reading.{Reads};
+// The tables of the objects of a manifest that is read.
+ghost use Rattle.std.specs.Prelude.{◌≡◌, None, IfOk, IfErr};
+ghost use Rattle.link_input.specs.Checks.{first_fault};
+ghost use Rattle.link_manifest.specs.declared.fault.Step.TheVariants.{Item};
+ghost use Rattle.link_manifest.specs.Manifest.{none_at_fault, objects_checked, tables_checked};
+ghost use Rattle.link_manifest.specs.Reading.{and_read, within, IsFaultOf, Reads};
 
+use crate::contents::UncheckedObject;
 use crate::fault::{ManifestError, Problem};
-use crate::reading::{at_item, fault_here};
-use link_input::{ObjectTable, ParsedInputObject, Place, SymbolEntry};
+use crate::path::{at_key, error_at_item, fault_here};
+use link_ids::Seq;
+use link_input::{InputObject, ParsedInputObject, Platform, TableError};
 use std::alloc::Global;
 
-/// It is in a section that a table of so many sections lacks.
-fn is_out_of(sections: u32, place: Place) -> bool
-    ensures { result ≡ is_out_of sections place }
-{
-    match place {
-        Place::Undefined | Place::Absolute | Place::Common => false,
-        Place::Section(number) => number >= sections,
-    }
-}
-
-/// The first symbol that stands in a section that a table of so many sections lacks.
-fn first_out_of(sections: u32, symbols: &[SymbolEntry]) -> Option<usize>
-    ensures { result ≡ position (λ symbol. is_out_of sections symbol.place) symbols.now }
-{
-    symbols
-        .iter()
-        .position(|symbol| is_out_of(sections, symbol.place))
-}
-
-/// Tells the first symbol that stands in a section that its table lacks.
-fn check_table(alloc: Global, table: &ObjectTable) -> Result<(), ManifestError>
-    ensures { Reads result (table_checked table.now) }
-{
-    match first_out_of(table.sections, table.symbols.as_slice()) {
-        None => Ok(()),
-        Some(symbol) => Err(fault_here(alloc, Problem::NoSuchSection(symbol))),
-    }
-}
-
-/// Tells the first fault of the first object's table that has one.
-pub(crate) fn check_tables(
+/// The object with this place, where its table passes the checks.
+fn checked_object<P: Platform>(
     alloc: Global,
-    objects: &[ParsedInputObject],
-) -> Result<(), ManifestError>
-    ensures { Reads result (tables_checked 0 objects.now) }
+    place: usize,
+    object: UncheckedObject,
+) -> Result<ParsedInputObject<P>, ManifestError>
+    ensures same { IfOk result (λ checked. checked ≡ object) }
+    ensures passes { IfOk result (λ _. first_fault P.HAS_NULL_SYMBOL_ENTRY object.object ≡ None) }
+    ensures fails { IfErr result (λ error. IsFaultOf error (within (Item place) (none_at_fault (first_fault P.HAS_NULL_SYMBOL_ENTRY object.object)))) }
 {
-    for (place, object) in objects.iter().enumerate() {
-        at_item(place, check_table(alloc, &object.object))?;
+    let UncheckedObject {
+        input,
+        table,
+        modifiers,
+    } = object;
+    match InputObject::new(alloc, table) {
+        Ok(object) => Ok(ParsedInputObject::new(input, object, modifiers)),
+        Err(TableError::Memory) => Err(ManifestError::Memory),
+        Err(error) => Err(error_at_item(place, fault_here(alloc, Problem::Table(error)))),
     }
-    Ok(())
+}
+
+/// The objects, where the tables of all pass the checks.
+fn checked_tables<P: Platform>(
+    alloc: Global,
+    objects: Vec<UncheckedObject>,
+) -> Result<Seq<ParsedInputObject<P>>, ManifestError>
+    ensures { Reads result (and_read (tables_checked P.HAS_NULL_SYMBOL_ENTRY 0 objects.items) (λ _. Ok objects.items)) }
+{
+    let mut checked = Vec::new(alloc);
+    for (place, object) in objects.into_iter().enumerate() {
+        checked.push(checked_object(alloc, place, object)?)?;
+    }
+    Ok(Seq::from_vec(checked))
+}
+
+/// The objects of a manifest, where the tables of all pass the checks.
+pub(crate) fn checked_objects<P: Platform>(
+    alloc: Global,
+    objects: Seq<UncheckedObject>,
+) -> Result<Seq<ParsedInputObject<P>>, ManifestError>
+    ensures { Reads result (objects_checked P.HAS_NULL_SYMBOL_ENTRY objects) }
+{
+    at_key(alloc, "objects", checked_tables(alloc, objects.into_vec()))
 }

@@ -1,7 +1,7 @@
 // What no clause says: that a manifest is read with ample memory, and that the definitions say what
 // is meant. Each row has a manifest and the text of its fault, or `read` where it has none.
-use crate::{ManifestError, manifest_of};
-use link_input::{Place, SymbolBinding};
+use crate::{Manifest, ManifestError, manifest_of};
+use link_input::{ElfLike, Place, SymbolBinding, World};
 use std::alloc::{AllocError, Global};
 use std::test::Fail;
 
@@ -66,7 +66,25 @@ null => expected object
 {"objects":[{"name":"a","sections":null}]} => objects[0].sections: expected number
 {"objects":[{"name":"a","symbols":{}}]} => objects[0].symbols: expected list
 {"objects":[{"name":"a","symbols":null}]} => objects[0].symbols: expected list
-{"objects":[{"name":"a","whole_archive":true}]} => objects[0].whole_archive: unknown key
+{"objects":[{"name":"a","as_needed":true}]} => objects[0].as_needed: unknown key
+{"objects":[{"name":"a","whole_archive":true}]} => read
+{"objects":[{"name":"a","whole_archive":false}]} => read
+{"objects":[{"name":"a","whole_archive":0}]} => objects[0].whole_archive: expected bool
+{"objects":[{"name":"a","whole_archive":null}]} => objects[0].whole_archive: expected bool
+{"objects":[{"name":"a","whole_archive":"true"}]} => objects[0].whole_archive: expected bool
+
+{"files_per_group":1} => read
+{"files_per_group":256} => read
+{"files_per_group":0} => files_per_group: expected number
+{"files_per_group":257} => files_per_group: expected number
+{"files_per_group":-1} => files_per_group: expected number
+{"files_per_group":1.0} => files_per_group: expected number
+{"files_per_group":1e2} => files_per_group: expected number
+{"files_per_group":4294967297} => files_per_group: expected number
+{"files_per_group":"1"} => files_per_group: expected number
+{"files_per_group":true} => files_per_group: expected number
+{"files_per_group":null} => files_per_group: expected number
+{"Files_per_group":1} => Files_per_group: unknown key
 
 {"objects":[{"name":"a","symbols":[0]}]} => objects[0].symbols[0]: expected object
 {"objects":[{"name":"a","symbols":[{}]}]} => objects[0].symbols[0].name: missing
@@ -74,7 +92,7 @@ null => expected object
 {"objects":[{"name":"a","symbols":[{"place":"undefined"}]}]} => objects[0].symbols[0].name: missing
 {"objects":[{"name":"a","symbols":[{"name":1,"place":0}]}]} => objects[0].symbols[0].name: expected bytes
 {"objects":[{"name":"a","symbols":[{"name":null,"place":0}]}]} => objects[0].symbols[0].name: expected bytes
-{"objects":[{"name":"a","symbols":[{"name":{"hex":"66"},"place":0}]}]} => objects[0].symbols[0].name: expected bytes
+{"objects":[{"name":"a","symbols":[{"name":["66"],"place":0}]}]} => objects[0].symbols[0].name: expected bytes
 {"objects":[{"name":"a","symbols":[{"name":"f","place":"absolute"}]}]} => objects[0].symbols[0].place: expected place
 {"objects":[{"name":"a","symbols":[{"name":"f","place":"Undefined"}]}]} => objects[0].symbols[0].place: expected place
 {"objects":[{"name":"a","symbols":[{"name":"f","place":-1}]}]} => objects[0].symbols[0].place: expected place
@@ -82,13 +100,42 @@ null => expected object
 {"objects":[{"name":"a","symbols":[{"name":"f","place":null}]}]} => objects[0].symbols[0].place: expected place
 {"objects":[{"name":"a","symbols":[{"name":"f","place":"undefined","bind":"weak"}]}]} => objects[0].symbols[0].bind: unknown key
 
+{"objects":[{"name":"a","symbols":[{"name":{"hex":"6a"},"place":"undefined"}]}]} => read
+{"objects":[{"name":"a","symbols":[{"name":{"hex":"6A"},"place":"undefined"}]}]} => read
+{"objects":[{"name":"a","symbols":[{"name":{"hex":"fFFf00"},"place":"undefined"}]}]} => read
+{"objects":[{"name":"a","symbols":[{"name":{"hex":""},"place":"undefined"}]}]} => read
+{"objects":[{"name":"a","symbols":[{"name":{"hex":"6"},"place":"undefined"}]}]} => objects[0].symbols[0].name: expected bytes
+{"objects":[{"name":"a","symbols":[{"name":{"hex":"666"},"place":"undefined"}]}]} => objects[0].symbols[0].name: expected bytes
+{"objects":[{"name":"a","symbols":[{"name":{"hex":"6g"},"place":"undefined"}]}]} => objects[0].symbols[0].name: expected bytes
+{"objects":[{"name":"a","symbols":[{"name":{"hex":"0x66"},"place":"undefined"}]}]} => objects[0].symbols[0].name: expected bytes
+{"objects":[{"name":"a","symbols":[{"name":{"hex":"66 6"},"place":"undefined"}]}]} => objects[0].symbols[0].name: expected bytes
+{"objects":[{"name":"a","symbols":[{"name":{"hex":"é"},"place":"undefined"}]}]} => objects[0].symbols[0].name: expected bytes
+{"objects":[{"name":"a","symbols":[{"name":{"hex":null},"place":"undefined"}]}]} => objects[0].symbols[0].name: expected bytes
+{"objects":[{"name":"a","symbols":[{"name":{"hex":66},"place":"undefined"}]}]} => objects[0].symbols[0].name: expected bytes
+{"objects":[{"name":"a","symbols":[{"name":{"hex":{"hex":"66"}},"place":"undefined"}]}]} => objects[0].symbols[0].name: expected bytes
+{"objects":[{"name":"a","symbols":[{"name":{},"place":"undefined"}]}]} => objects[0].symbols[0].name: expected bytes
+{"objects":[{"name":"a","symbols":[{"name":{"Hex":"66"},"place":"undefined"}]}]} => objects[0].symbols[0].name: expected bytes
+{"objects":[{"name":"a","symbols":[{"name":{"hex":"66","hey":"66"},"place":"undefined"}]}]} => objects[0].symbols[0].name: expected bytes
+{"objects":[{"name":"a","symbols":[{"name":{"he":"66","hex":"66"},"place":"undefined"}]}]} => objects[0].symbols[0].name: expected bytes
+{"objects":[{"name":"a","symbols":[{"name":{"hex":"6","hex":"66"},"place":"undefined"}]}]} => read
+{"objects":[{"name":"a","symbols":[{"name":{"hex":"66","hex":"6"},"place":"undefined"}]}]} => objects[0].symbols[0].name: expected bytes
+
 {"objects":[{"name":"a","symbols":[{"name":"f","place":0}]}]} => objects[0]: symbol 1 has no such section
 {"objects":[{"name":"a","sections":1,"symbols":[{"name":"f","place":0}]}]} => read
 {"objects":[{"name":"a","sections":1,"symbols":[{"name":"f","place":1}]}]} => objects[0]: symbol 1 has no such section
 {"objects":[{"name":"a","sections":1,"symbols":[{"name":"f","place":0},{"name":"g","place":9},{"name":"h","place":9}]}]} => objects[0]: symbol 2 has no such section
 {"objects":[{"name":"a"},{"name":"b","symbols":[{"name":"f","place":0}]},{"name":"c","symbols":[{"name":"f","place":0}]}]} => objects[1]: symbol 1 has no such section
 
+{"objects":[{"name":"a"},{"name":"b","sections":1,"symbols":[{"name":"f","place":0},{"name":"g","place":1}]}]} => objects[1]: symbol 2 has no such section
+{"objects":[{"name":"a","symbols":[{"name":{"hex":"00"},"place":4294967295}]}]} => objects[0]: symbol 1 has no such section
+
 {"objects":[{"name":"a","symbols":[{"name":"f","place":3}]},{"nam":"b"}]} => objects[1].nam: unknown key
+{"objects":[{"name":"a","symbols":[{"name":"f","place":3}]}],"files_per_group":0} => files_per_group: expected number
+{"objects":1,"files_per_group":257} => files_per_group: expected number
+{"objects":1,"files_per_group":256} => objects: expected list
+{"objects":[{"sections":-1,"whole_archive":0,"archive":false,"name":""}]} => objects[0].whole_archive: expected bool
+{"objects":[{"whole_archive":0,"archive":0,"name":""}]} => objects[0].archive: expected bool
+{"objects":[{"name":"","symbols":[{"name":{"hex":"f"},"place":null}]}]} => objects[0].symbols[0].name: expected bytes
 {"objects":[{"name":1},{"x":0}],"x":0} => x: unknown key
 {"objects":[{"symbols":1,"sections":-1,"archive":0,"name":1}]} => objects[0].name: expected text
 {"objects":[{"symbols":1,"sections":-1,"archive":0,"name":""}]} => objects[0].archive: expected bool
@@ -141,35 +188,77 @@ fn bytes_that_are_no_json_are_refused(rt: HostRuntime) -> Result<(), Fail> {
     Ok(())
 }
 
-#[test]
-fn a_manifest_is_read(rt: HostRuntime) -> Result<(), Fail> {
-    let alloc = rt.alloc();
-    let bytes = br#"{"objects":[
-        {"name":"main.o","sections":2,"symbols":[
-            {"name":"main","place":1},{"name":"\u00e9t\u00e9","place":"undefined"}]},
-        {"name":"lib.o","archive":true}]}"#;
-    let manifest = manifest_of(alloc, bytes)?;
-    let objects = manifest.inputs.objects.as_slice();
-    assert_eq!(rt; objects.len(), 2);
-    let main = &objects[0];
-    assert!(rt; main.input.is(b"main.o") && main.object.lib_name.is(b"main.o"));
-    assert!(rt; !main.modifiers.archive && !main.object.is_dynamic);
-    assert_eq!(rt; main.object.sections, 2);
-    let symbols = main.object.symbols.as_slice();
-    assert_eq!(rt; symbols.len(), 3);
-    let wanted = [
-        ("", SymbolBinding::Local, Place::Undefined),
-        ("main", SymbolBinding::Global, Place::Section(1)),
-        ("été", SymbolBinding::Global, Place::Undefined),
-    ];
-    for (symbol, (name, binding, place)) in symbols.iter().zip(wanted) {
-        assert!(rt; symbol.name.is(name.as_bytes()), "{name}");
-        assert_eq!(rt; symbol.binding, binding, "{name}");
-        assert_eq!(rt; symbol.place, place, "{name}");
+/// What a manifest says for a platform like ELF.
+fn elf_world(manifest: Manifest) -> Option<World<ElfLike>> {
+    match manifest {
+        Manifest::Elf(world) => Some(world),
+        Manifest::Mach(_) => None,
     }
-    let lib = &objects[1];
-    assert!(rt; lib.input.is(b"lib.o") && lib.modifiers.archive);
-    assert_eq!(rt; lib.object.symbols.len(), 1);
-    assert_eq!(rt; lib.object.sections, 0);
+}
+
+#[test]
+fn objects_are_read_in_order(rt: HostRuntime) -> Result<(), Fail> {
+    let alloc = rt.alloc();
+    let bytes = br#"{"objects":[{"name":"main.o"},{"name":"lib.o","archive":true},
+        {"name":"all.o","archive":true,"whole_archive":true}],"files_per_group":7}"#;
+    let world = elf_world(manifest_of(alloc, bytes)?).ok_or("no ELF")?;
+    assert_eq!(rt; world.options.files_per_group, 7);
+    assert!(rt; world.scripts.version_script.is_none() && world.scripts.export_list.is_none());
+    assert!(rt; world.inputs.scripts.is_empty() && world.inputs.stubs.is_empty());
+    let wanted = [
+        ("main.o", false, false),
+        ("lib.o", true, false),
+        ("all.o", true, true),
+    ];
+    assert_eq!(rt; world.inputs.objects.len(), wanted.len());
+    for (object, (name, archive, whole)) in world.inputs.objects.as_slice().iter().zip(wanted) {
+        assert!(rt; object.input().is(name.as_bytes()), "{name}");
+        assert_eq!(rt; object.modifiers().archive, archive, "{name}");
+        assert_eq!(rt; object.modifiers().whole_archive, whole, "{name}");
+        assert!(rt;
+            !object.modifiers().as_needed && !object.is_dynamic(),
+            "{name}"
+        );
+        assert_eq!(rt; object.num_symbols(), 1, "{name}");
+    }
+    Ok(())
+}
+
+#[test]
+fn a_table_is_read(rt: HostRuntime) -> Result<(), Fail> {
+    let alloc = rt.alloc();
+    let bytes = br#"{"objects":[{"name":"main.o","sections":2,"symbols":[{"name":"main","place":1},
+        {"name":"\u00e9t\u00e9","place":"undefined"},{"name":{"hex":"FF0aaF"},"place":0}]}]}"#;
+    let world = elf_world(manifest_of(alloc, bytes)?).ok_or("no ELF")?;
+    let objects = world.inputs.objects.as_slice();
+    assert_eq!(rt; objects.len(), 1);
+    let table = objects[0].object().table();
+    assert!(rt; table.lib_name.is(b"main.o"));
+    assert_eq!(rt; table.sections, 2);
+    let wanted = [
+        (b"".as_slice(), SymbolBinding::Local, Place::Undefined),
+        (b"main".as_slice(), SymbolBinding::Global, Place::Section(1)),
+        ("été".as_bytes(), SymbolBinding::Global, Place::Undefined),
+        (
+            b"\xff\x0a\xaf".as_slice(),
+            SymbolBinding::Global,
+            Place::Section(0),
+        ),
+    ];
+    assert_eq!(rt; table.symbols.len(), wanted.len());
+    for (symbol, (name, binding, place)) in table.symbols.as_slice().iter().zip(wanted) {
+        assert!(rt; symbol.name.is(name), "{name:?}");
+        assert_eq!(rt; symbol.binding, binding, "{name:?}");
+        assert_eq!(rt; symbol.place, place, "{name:?}");
+    }
+    Ok(())
+}
+
+#[test]
+fn what_is_left_out_has_its_default(rt: HostRuntime) -> Result<(), Fail> {
+    let alloc = rt.alloc();
+    let world = elf_world(manifest_of(alloc, b"{}")?).ok_or("no ELF")?;
+    assert_eq!(rt; world.options.files_per_group, 256);
+    assert!(rt; world.inputs.objects.is_empty());
     Ok(())
 }

@@ -1,123 +1,18 @@
-// What a manifest is made of: its kinds of value, and the keys of its objects in their order.
+// What a manifest is made of: the keys of its objects in their order.
 ghost use Rattle.std.specs.Prelude.{◌≡◌, ◌∷◌, IfOk, IfErr};
-ghost use Rattle.serde_json.specs.Find.{as_str};
 ghost use Rattle.serde_json.specs.View.{view};
-ghost use Rattle.link_manifest.specs.Manifest.{text_read, bytes_read, bool_read, number_of, number_read, place_of, place_read, symbol_read, null_entry, object_read, root_read};
 ghost use Rattle.link_manifest.specs.declared.fault.ManifestError.TheVariants.{Memory};
+ghost use Rattle.link_manifest.specs.Manifest.{symbol_read, null_entry, object_read, root_read};
 ghost use Rattle.link_manifest.specs.Reading.{Reads};
 
-use crate::fault::{Kind, ManifestError, Problem};
-use crate::manifest::Manifest;
-use crate::reading::{Readable, fault_here, object_of_keys, optional, optional_list, required};
+use crate::contents::{Contents, UncheckedObject};
+use crate::fault::ManifestError;
+use crate::reading::{Readable, object_of_keys, optional, optional_list, required};
+use crate::values::{Bytes, Flag, GroupSize, Number, SymbolPlace, Text};
 use link_ids::{Name, Seq, Visibility};
-use link_input::{
-    Inputs, Modifiers, ObjectTable, Options, ParsedInputObject, Place, SymbolBinding, SymbolEntry,
-    SymbolKind,
-};
+use link_input::{Modifiers, ObjectTable, Options, Place, SymbolBinding, SymbolEntry, SymbolKind};
 use serde_json::Value;
 use std::alloc::Global;
-
-/// A JSON text.
-struct Text;
-
-impl Readable for Text {
-    type Read = Name;
-
-    ghost read = { text_read };
-
-    fn read(alloc: Global, value: &Value) -> Result<Name, ManifestError> {
-        match value.as_str() {
-            Some(text) => Ok(Name::from_slice(alloc, text.as_bytes())?),
-            None => Err(fault_here(alloc, Problem::Expected(Kind::Text))),
-        }
-    }
-}
-
-/// Bytes.
-struct Bytes;
-
-impl Readable for Bytes {
-    type Read = Name;
-
-    ghost read = { bytes_read };
-
-    fn read(alloc: Global, value: &Value) -> Result<Name, ManifestError> {
-        match value.as_str() {
-            Some(text) => Ok(Name::from_slice(alloc, text.as_bytes())?),
-            None => Err(fault_here(alloc, Problem::Expected(Kind::Bytes))),
-        }
-    }
-}
-
-/// `true` or `false`.
-struct Flag;
-
-impl Readable for Flag {
-    type Read = bool;
-
-    ghost read = { bool_read };
-
-    fn read(alloc: Global, value: &Value) -> Result<bool, ManifestError> {
-        match value.as_bool() {
-            Some(flag) => Ok(flag),
-            None => Err(fault_here(alloc, Problem::Expected(Kind::Bool))),
-        }
-    }
-}
-
-/// A whole number.
-struct Number;
-
-/// A whole number without fraction or exponent, below 2^32.
-fn number_of(value: &Value) -> Option<u32>
-    ensures { result ≡ number_of (view value.now) }
-{
-    let number = value.as_u64()?;
-    if number > u32::MAX as u64 {
-        return None;
-    }
-    Some(number as u32)
-}
-
-impl Readable for Number {
-    type Read = u32;
-
-    ghost read = { number_read };
-
-    fn read(alloc: Global, value: &Value) -> Result<u32, ManifestError> {
-        match number_of(value) {
-            Some(number) => Ok(number),
-            None => Err(fault_here(alloc, Problem::Expected(Kind::Number))),
-        }
-    }
-}
-
-/// Where a symbol stands.
-struct SymbolPlace;
-
-/// `undefined`, or the number of a section.
-fn place_of(value: &Value) -> Option<Place>
-    ensures { result ≡ place_of (as_str (view value.now)) (number_of (view value.now)) }
-{
-    match value.as_str() {
-        Some("undefined") => Some(Place::Undefined),
-        Some(_) => None,
-        None => Some(Place::Section(number_of(value)?)),
-    }
-}
-
-impl Readable for SymbolPlace {
-    type Read = Place;
-
-    ghost read = { place_read };
-
-    fn read(alloc: Global, value: &Value) -> Result<Place, ManifestError> {
-        match place_of(value) {
-            Some(place) => Ok(place),
-            None => Err(fault_here(alloc, Problem::Expected(Kind::Place))),
-        }
-    }
-}
 
 /// An entry of a symbol table.
 struct Symbol;
@@ -177,17 +72,22 @@ fn behind_null_entry(
 struct Object;
 
 impl Readable for Object {
-    type Read = ParsedInputObject;
+    type Read = UncheckedObject;
 
     ghost read = { object_read };
 
-    fn read(alloc: Global, value: &Value) -> Result<ParsedInputObject, ManifestError> {
-        object_of_keys(alloc, value, &["name", "archive", "sections", "symbols"])?;
+    fn read(alloc: Global, value: &Value) -> Result<UncheckedObject, ManifestError> {
+        object_of_keys(
+            alloc,
+            value,
+            &["name", "archive", "whole_archive", "sections", "symbols"],
+        )?;
         let input = required::<Text>(alloc, value, "name")?;
         let archive = optional::<Flag>(alloc, value, "archive", false)?;
+        let whole_archive = optional::<Flag>(alloc, value, "whole_archive", false)?;
         let sections = optional::<Number>(alloc, value, "sections", 0)?;
         let symbols = optional_list::<Symbol>(alloc, value, "symbols")?;
-        let object = ObjectTable {
+        let table = ObjectTable {
             is_dynamic: false,
             lib_name: input.clone()?,
             sections,
@@ -196,30 +96,24 @@ impl Readable for Object {
         };
         let modifiers = Modifiers {
             archive,
-            whole_archive: false,
+            whole_archive,
             as_needed: false,
         };
-        Ok(ParsedInputObject {
+        Ok(UncheckedObject {
             input,
-            object,
+            table,
             modifiers,
         })
     }
 }
 
 /// The root.
-pub(crate) fn root(alloc: Global, value: &Value) -> Result<Manifest, ManifestError>
+pub(crate) fn root(alloc: Global, value: &Value) -> Result<Contents, ManifestError>
     ensures { Reads result (root_read (view value.now)) }
 {
-    object_of_keys(alloc, value, &["objects"])?;
+    object_of_keys(alloc, value, &["files_per_group", "objects"])?;
+    let mut options = Options::new(alloc);
+    options.files_per_group = optional::<GroupSize>(alloc, value, "files_per_group", 256)?;
     let objects = optional_list::<Object>(alloc, value, "objects")?;
-    let inputs = Inputs {
-        objects,
-        scripts: Seq::new(alloc),
-        stubs: Seq::new(alloc),
-    };
-    Ok(Manifest {
-        inputs,
-        options: Options::new(alloc),
-    })
+    Ok(Contents { options, objects })
 }

@@ -1,4 +1,5 @@
 pub mod Numerals
-pub mod SortedTexts
 pub mod TooLong
 pub mod OneText
+pub mod OfWorld
+pub mod PlainManifest

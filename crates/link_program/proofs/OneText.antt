@@ -1,15 +1,8 @@
 -- What is due is written, unless a fault comes between or memory runs out.
-use Rattle.std.proofs.Common.{◌≡◌, ℕ, ◌⊎◌, inl, inr, List, ◌++◌, Option, Some, None, IsSome, Result, Ok, Err, codes, refl, sym, ◌∙◌, subst, ap}
-use Rattle.std.specs.Prelude.{MatchOption}
-use Rattle.link_input.specs.declared.object.ParsedInputObject.{ParsedInputObject}
-use Rattle.link_rules.specs.declared.linked.Linked.{Linked as Answer}
-use Rattle.link_rules.specs.declared.refusal.LinkError.{LinkError}
-use Rattle.link_rules.specs.declared.refusal.LinkError.TheVariants.{DuplicateSymbols}
+use Rattle.std.proofs.Common.{◌≡◌, ◌⊎◌, inl, inr, List, ◌++◌, Option, Some, None, IsSome, Result, Ok, Err, codes, refl, sym, ◌∙◌, subst, ap}
 use Rattle.link_rules.specs.Places.{Bytes}
-use Rattle.link_rules.specs.Rivals.{duplicates, IsSortedTexts}
-use Rattle.link_rules.specs.Answer.{IsLinked, IsRefused, HasDuplicates, early_refusal}
-use Rattle.link_rules.specs.Report.{IsReport, refusal_text}
-use Rattle.link_rules.proofs.OneAnswer.{one-loaded, one-report}
+use Rattle.link_rules.specs.Answer.{IsRefused, IsReport, IsRefusalText}
+use Rattle.link_rules.proofs.WorldOnce.{one-report, one-refusal_text, not-both}
 use Rattle.link_manifest.specs.declared.fault.ManifestFault.{ManifestFault}
 use Rattle.link_manifest.specs.declared.manifest.Manifest.{Manifest as Described}
 use Rattle.link_manifest.specs.FaultText.{fault_text}
@@ -18,30 +11,7 @@ use Rattle.link_program.specs.declared.command.Command.TheVariants.{Link}
 use Rattle.link_program.specs.declared.status.Status.{Status}
 use Rattle.link_program.specs.declared.status.Status.TheVariants.{Linked, Refused, Usage, Manifest, ReadFault, WriteFault, Memory}
 use Rattle.link_program.specs.Grammar.{IsLink, IsNoCommand}
-use Rattle.link_program.specs.Outcome.{error_line, IsManifest, IsTextOf, IsWholeText, IsTextFor, IsDue}
-use Rattle.link_program.proofs.SortedTexts.{one-sorted}
-
--- no objects are both linked and refused
-linked-not_refused : (objects : List ParsedInputObject) (linked : Answer) (error : LinkError) → IsLinked objects linked → IsRefused objects error → ⊥
-linked-not_refused objects linked error done refused =
-    let twice : HasDuplicates objects error = subst (λ first. MatchOption first (HasDuplicates objects error) (λ e. error ≡ e)) done.starts refused in
-    twice.some (ap (duplicates objects) (one-loaded objects twice.marks done.marks twice.loaded done.loaded) ∙ done.no_duplicates)
-
--- a link has one cause for which it is refused
-one-duplicates : (objects : List ParsedInputObject) (a b : LinkError) → HasDuplicates objects a → HasDuplicates objects b → a ≡ b
-one-duplicates objects a b first second =
-    let marks = one-loaded objects first.marks second.marks first.loaded second.loaded in
-    let texts = ap (duplicates objects) marks in
-    let sorted = subst (λ (xs : List Bytes). IsSortedTexts xs first.lines) texts first.sorted in
-    first.is ∙ ap (λ (xs : List Bytes). DuplicateSymbols xs) (one-sorted (duplicates objects second.marks) first.lines second.lines sorted second.sorted) ∙ sym second.is
-
-one-cause : (objects : List ParsedInputObject) (early : Option LinkError) (a b : LinkError) → MatchOption early (HasDuplicates objects a) (λ e. a ≡ e)
-    → MatchOption early (HasDuplicates objects b) (λ e. b ≡ e) → a ≡ b
-one-cause objects None a b first second = one-duplicates objects a b first second
-one-cause objects (Some e) a b first second = first ∙ sym second
-
-one-refusal : (objects : List ParsedInputObject) (a b : LinkError) → IsRefused objects a → IsRefused objects b → a ≡ b
-one-refusal objects a b first second = one-cause objects (early_refusal objects) a b first second
+use Rattle.link_program.specs.Outcome.{error_line, world_of_manifest, IsTextOf, IsWholeText, IsTextFor, IsDue}
 
 ok-inj : {X E : Type 0} (r : Result X E) (x y : X) → r ≡ Ok x → r ≡ Ok y → x ≡ y
 ok-inj r x y is is' = cc
@@ -52,41 +22,38 @@ err-inj r x y is is' = cc
 ok-not_err : {X E : Type 0} (r : Result X E) (x : X) (e : E) → r ≡ Ok x → r ≡ Err e → ⊥
 ok-not_err r x e is is' = cc
 
-same-objects : (bytes : Bytes) (a b : List ParsedInputObject) → IsManifest bytes a → IsManifest bytes b → a ≡ b
-same-objects bytes a b (m, reads, is) (n, reads', is') =
-    let same : m ≡ n = ok-inj (manifest_of bytes) m n reads reads' in
-    sym is ∙ ap (λ (k : Described). k.inputs.objects) same ∙ is'
+same-manifest : (bytes : Bytes) (m n : Described) → manifest_of bytes ≡ Ok m → manifest_of bytes ≡ Ok n → m ≡ n
+same-manifest bytes m n reads reads' = ok-inj (manifest_of bytes) m n reads reads'
 
 report-one : (bytes a b : Bytes) → IsTextOf bytes Linked a → IsTextOf bytes Linked b → a ≡ b
-report-one bytes a b (objects, is, held) (objects', is', held') =
-    one-report objects a b held (subst (λ (os : List ParsedInputObject). IsReport os b) (same-objects bytes objects' objects is' is) held')
+report-one bytes a b (m, is, held) (n, is', held') =
+    one-report (world_of_manifest m) a b held (subst (λ (k : Described). IsReport (world_of_manifest k) b) (same-manifest bytes n m is' is) held')
 
 refusal-one : (bytes a b : Bytes) → IsTextOf bytes Refused a → IsTextOf bytes Refused b → a ≡ b
-refusal-one bytes a b (objects, cause, is, (error, refused, told), line) (objects', cause', is', (error', refused', told'), line') =
-    let same = subst (λ (os : List ParsedInputObject). IsRefused os error') (same-objects bytes objects' objects is' is) refused' in
-    let text : cause ≡ cause' = told ∙ ap refusal_text (one-refusal objects error error' refused same) ∙ sym told' in
-    line ∙ ap error_line text ∙ sym line'
+refusal-one bytes a b (m, cause, is, told, line) (n, cause', is', told', line') =
+    let same = subst (λ (k : Described). IsRefusalText (world_of_manifest k) cause') (same-manifest bytes n m is' is) told' in
+    line ∙ ap error_line (one-refusal_text (world_of_manifest m) cause cause' told same) ∙ sym line'
 
 fault-one : (bytes a b : Bytes) → IsTextOf bytes Manifest a → IsTextOf bytes Manifest b → a ≡ b
 fault-one bytes a b (fault, fails, line) (fault', fails', line') =
     line ∙ ap (λ (f : ManifestFault). error_line (codes "manifest: " ++ fault_text f)) (err-inj (manifest_of bytes) fault fault' fails fails') ∙ sym line'
 
-not-both : (bytes a b : Bytes) → IsTextOf bytes Linked a → IsTextOf bytes Refused b → ⊥
-not-both bytes a b (objects, is, (linked, done, shown)) (objects', cause, is', (error, refused, told), line) =
-    linked-not_refused objects linked error done (subst (λ (os : List ParsedInputObject). IsRefused os error) (same-objects bytes objects' objects is' is) refused)
+linked-not_refused : (bytes a b : Bytes) → IsTextOf bytes Linked a → IsTextOf bytes Refused b → ⊥
+linked-not_refused bytes a b (m, is, (linked, done, shown)) (n, cause, is', (error, refused, told), line) =
+    not-both (world_of_manifest m) linked error done (subst (λ (k : Described). IsRefused (world_of_manifest k) error) (same-manifest bytes n m is' is) refused)
 
 linked-reads : (bytes a b : Bytes) → IsTextOf bytes Linked a → IsTextOf bytes Manifest b → ⊥
-linked-reads bytes a b (objects, (m, reads, is), held) (fault, fails, line) = ok-not_err (manifest_of bytes) m fault reads fails
+linked-reads bytes a b (m, reads, held) (fault, fails, line) = ok-not_err (manifest_of bytes) m fault reads fails
 
 refused-reads : (bytes a b : Bytes) → IsTextOf bytes Refused a → IsTextOf bytes Manifest b → ⊥
-refused-reads bytes a b (objects, cause, (m, reads, is), held, line) (fault, fails, line') = ok-not_err (manifest_of bytes) m fault reads fails
+refused-reads bytes a b (m, cause, reads, held, line) (fault, fails, line') = ok-not_err (manifest_of bytes) m fault reads fails
 
 -- some bytes have one status and one text
 one-text : (bytes : Bytes) (s t : Status) (a b : Bytes) → IsTextOf bytes s a → IsTextOf bytes t b → (s ≡ t) × (a ≡ b)
 one-text bytes Linked Linked a b held held' = (refl, report-one bytes a b held held')
-one-text bytes Linked Refused a b held held' = absurd (not-both bytes a b held held')
+one-text bytes Linked Refused a b held held' = absurd (linked-not_refused bytes a b held held')
 one-text bytes Linked Manifest a b held held' = absurd (linked-reads bytes a b held held')
-one-text bytes Refused Linked a b held held' = absurd (not-both bytes b a held' held)
+one-text bytes Refused Linked a b held held' = absurd (linked-not_refused bytes b a held' held)
 one-text bytes Refused Refused a b held held' = (refl, refusal-one bytes a b held held')
 one-text bytes Refused Manifest a b held held' = absurd (refused-reads bytes a b held held')
 one-text bytes Manifest Linked a b held held' = absurd (linked-reads bytes b a held' held)

@@ -1,10 +1,12 @@
 -- What a command writes, by how it ends.
 use Rattle.std.specs.Prelude.{◌≡◌, ℕ, List, [], ◌++◌, Option, IsSome, IfSome, Ok, Err, codes}
-use Rattle.link_input.specs.declared.object.ParsedInputObject.{ParsedInputObject}
 use Rattle.link_rules.specs.Places.{Bytes}
-use Rattle.link_rules.specs.Report.{IsReport, IsRefusalText}
+use Rattle.link_rules.specs.World.{Given, World, world_of}
+use Rattle.link_rules.specs.Rules.{PlatformRules, elf_like, mach_like}
+use Rattle.link_rules.specs.Answer.{IsReport, IsRefusalText}
 use Rattle.link_manifest.specs.declared.fault.ManifestFault.{ManifestFault}
 use Rattle.link_manifest.specs.declared.manifest.Manifest.{Manifest as Described}
+use Rattle.link_manifest.specs.declared.manifest.Manifest.TheVariants.{Elf, Mach}
 use Rattle.link_manifest.specs.FaultText.{fault_text}
 use Rattle.link_manifest.specs.Manifest.{manifest_of}
 use Rattle.link_program.specs.declared.status.Status.{Status}
@@ -25,15 +27,25 @@ status_number Memory = 6
 abbrev pub error_line : Bytes → Bytes
 error_line what = codes "error: " ++ what ++ codes "\n"
 
--- the bytes are the manifest of these objects
-abbrev pub IsManifest : Bytes → List ParsedInputObject → Type 0
-IsManifest bytes objects = (m : Described) × (manifest_of bytes ≡ Ok m) × (m.inputs.objects ≡ objects)
+-- what a manifest gives, whatever its platform
+abbrev pub given_of : Described → Given
+given_of (Elf world) = record { objects = world.inputs.objects; scripts = world.inputs.scripts; stubs = world.inputs.stubs; options = world.options; texts = world.scripts }
+given_of (Mach world) = record { objects = world.inputs.objects; scripts = world.inputs.scripts; stubs = world.inputs.stubs; options = world.options; texts = world.scripts }
+
+-- the rules of its platform
+abbrev pub platform_of : Described → PlatformRules
+platform_of (Elf world) = elf_like
+platform_of (Mach world) = mach_like
+
+-- what a manifest describes, as a world; each name is shown as it is
+abbrev pub world_of_manifest : Described → World
+world_of_manifest m = world_of (platform_of m) (λ name. name) (given_of m)
 
 -- the text of a link of what these bytes describe, by the status
 abbrev pub IsTextOf : Bytes → Status → Bytes → Type 0
-IsTextOf bytes Linked text = (objects : List ParsedInputObject) × IsManifest bytes objects × IsReport objects text
+IsTextOf bytes Linked text = (m : Described) × (manifest_of bytes ≡ Ok m) × IsReport (world_of_manifest m) text
 IsTextOf bytes Refused text =
-    (objects : List ParsedInputObject) × (cause : Bytes) × IsManifest bytes objects × IsRefusalText objects cause × (text ≡ error_line cause)
+    (m : Described) × (cause : Bytes) × (manifest_of bytes ≡ Ok m) × IsRefusalText (world_of_manifest m) cause × (text ≡ error_line cause)
 IsTextOf bytes Manifest text =
     (fault : ManifestFault) × (manifest_of bytes ≡ Err fault) × (text ≡ error_line (codes "manifest: " ++ fault_text fault))
 IsTextOf bytes Usage text = ⊥

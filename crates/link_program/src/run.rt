@@ -4,6 +4,7 @@ ghost use Rattle.link_manifest.specs.FaultText.{fault_text};
 ghost use Rattle.link_rules.specs.Places.{Bytes};
 ghost use Rattle.link_streams.specs.Streams.{IsAtEnd, Takes, TakesPart, Rose};
 ghost use Rattle.link_program.specs.Grammar.{IsInRange, IsNoCommand};
+ghost use Rattle.link_program.specs.PlainText.{IsPlainText};
 ghost use Rattle.link_program.specs.Outcome.{error_line, IsTextOf, IsLinkText, IsTextFor, IsDue};
 
 use crate::command::{Command, command_of};
@@ -11,6 +12,7 @@ use crate::status::Status;
 use crate::word::Word;
 use link_core::link_symbols;
 use link_ids::Seq;
+use link_input::{Platform, World};
 use link_manifest::{MAX_BYTES, Manifest, ManifestError, ManifestFault, Problem, manifest_of};
 use link_report::{refusal_text, report_text};
 use link_rules::LinkError;
@@ -111,12 +113,24 @@ fn answer_to_bytes(alloc: Global, workers: usize, bytes: &[u8]) -> Result<Answer
     requires in_range { IsInRange (Command.Link workers) }
     ensures { IfOk result (λ a. IsTextOf bytes.now a.status a.text.items) }
 {
-    let Manifest { inputs, options } = match manifest_of(alloc, bytes) {
-        Ok(manifest) => manifest,
-        Err(ManifestError::At(fault)) => return fault_answer(alloc, &fault),
-        Err(ManifestError::Memory) => return Err(AllocError),
-    };
-    match link_symbols(alloc, inputs, options, workers) {
+    match manifest_of(alloc, bytes) {
+        Ok(Manifest::Elf(world)) => answer_to_world(alloc, workers, world),
+        Ok(Manifest::Mach(world)) => answer_to_world(alloc, workers, world),
+        Err(ManifestError::At(fault)) => fault_answer(alloc, &fault),
+        Err(ManifestError::Memory) => Err(AllocError),
+    }
+}
+
+// The answer to a link of this world.
+fn answer_to_world<P: Platform>(
+    alloc: Global,
+    workers: usize,
+    world: World<P>,
+) -> Result<Answer, AllocError>
+    requires in_range { IsInRange (Command.Link workers) }
+    ensures { IfOk result (λ a. IsPlainText world.inputs.objects a.status a.text.items) }
+{
+    match link_symbols(alloc, world.inputs, world.options, workers) {
         Ok(linked) => {
             let text = report_text(alloc, &linked)?;
             Ok(Answer {

@@ -30,7 +30,7 @@ symbol 9 baz -> 9 [NON_INTERPOSABLE]
 ";
 
 /// Manifests that `link 2` is run on, how each ends, and what is written.
-const MANIFESTS: [(&str, Status, &str); 8] = [
+const MANIFESTS: [(&str, Status, &str); 12] = [
     (
         r#"{"objects":[{"name":"e.o"}]}"#,
         Status::Linked,
@@ -51,6 +51,25 @@ symbol 3 \u{e9} -> 3 [NON_INTERPOSABLE]
 undefined 2 a\nb
 ",
     ),
+    // A name that is no text, and a member of an archive that is taken whole.
+    (
+        r#"{"objects":[{"name":"a.o","sections":2,"symbols":[{"name":{"hex":"fF00"},"place":1}]}]}"#,
+        Status::Linked,
+        "loaded 0 a.o
+symbol 0 <unnamed> -> 0 [ABSOLUTE]
+symbol 1 <unnamed> -> 0 [ABSOLUTE | NON_INTERPOSABLE]
+symbol 2 INVALID UTF-8([255, 0]) -> 2 [NON_INTERPOSABLE]
+",
+    ),
+    (
+        r#"{"files_per_group":1,"objects":[{"name":"w.o","archive":true,"whole_archive":true,"sections":1,"symbols":[{"name":"f","place":0}]}]}"#,
+        Status::Linked,
+        "loaded 0 w.o
+symbol 0 <unnamed> -> 0 [ABSOLUTE]
+symbol 1 <unnamed> -> 0 [ABSOLUTE | NON_INTERPOSABLE]
+symbol 2 f -> 2 [NON_INTERPOSABLE]
+",
+    ),
     ("{}", Status::Refused, "error: no input files\n"),
     (
         r#"{"objects":[{"name":"a.o","sections":2,"symbols":[{"name":"foo","place":1}]},{"name":"b.o","sections":2,"symbols":[{"name":"foo","place":1}]}]}"#,
@@ -69,6 +88,16 @@ undefined 2 a\nb
         "error: manifest: objects[1].name: missing\n",
     ),
     ("[]", Status::Manifest, "error: manifest: expected object\n"),
+    (
+        r#"{"objects":[{"name":"a.o"},{"name":"b.o","sections":2,"symbols":[{"name":"f","place":2}]}]}"#,
+        Status::Manifest,
+        "error: manifest: objects[1]: symbol 1 has no such section\n",
+    ),
+    (
+        r#"{"files_per_group":257}"#,
+        Status::Manifest,
+        "error: manifest: files_per_group: expected number\n",
+    ),
 ];
 
 /// Words that are no command.

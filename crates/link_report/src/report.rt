@@ -1,28 +1,38 @@
 // The report of a link.
 ghost use Rattle.std.specs.Prelude.{◌≡◌, ◌++◌, IfOk, OnOk, string_bytes};
-ghost use Rattle.link_rules.specs.Report.{loaded_line, symbol_line, symbol_name, undefined_line, report_text};
+ghost use Rattle.std.specs.List.{flat_map};
+ghost use Rattle.link_rules.specs.Places.{each_from};
+ghost use Rattle.link_rules.specs.Report.{loaded_line, kept_line, symbol_line, symbol_name, version_line, version_text, undefined_line, missing_line, joined_lines, report_text};
 
 use link_ids::Name;
-use link_rules::{Linked, LinkedSymbol, LoadedObject, UndefinedName};
+use link_rules::{GivenVersion, KeptGroup, Linked, LinkedSymbol, LoadedObject, UndefinedName};
 use std::alloc::{AllocError, Global};
 use std::fmt::Write;
 
-/// The report of a link, line by line: each loaded object, each symbol with what it means and the
-/// flags of its own value, and each name that nothing defines.
+/// The report of a link, line by line: each loaded object, each COMDAT group that was kept, each
+/// symbol with what it means and the flags of its own value, each version that was given, each name
+/// that nothing defines, and each name that the export list requires and nothing defines.
 pub fn report_text(alloc: Global, linked: &Linked) -> Result<Vec<u8>, AllocError>
     ensures { IfOk result (λ text. text.items ≡ report_text linked.now) }
 {
     let mut text = String::new(alloc);
-    for object in linked.loaded.as_slice() {
-        write_loaded_line(&mut text, object)?;
-    }
-    for (id, symbol) in linked.symbols.as_slice().iter().enumerate() {
-        write_symbol_line(&mut text, id, symbol)?;
-    }
-    for undefined in linked.undefined.as_slice() {
-        write_undefined_line(&mut text, undefined)?;
-    }
+    write_loaded_lines(&mut text, linked.loaded.as_slice())?;
+    write_kept_lines(&mut text, linked.kept.as_slice())?;
+    write_symbol_lines(&mut text, linked.symbols.as_slice())?;
+    write_version_lines(&mut text, linked.versions.as_slice())?;
+    write_undefined_lines(&mut text, linked.undefined.as_slice())?;
+    write_missing_lines(&mut text, linked.missing.as_slice())?;
     Ok(text.into_bytes())
+}
+
+// Adds the lines of the loaded objects.
+fn write_loaded_lines(text: &mut String, objects: &[LoadedObject]) -> Result<(), AllocError>
+    ensures { OnOk result (string_bytes text.new ≡ string_bytes text.old ++ flat_map loaded_line objects.now) }
+{
+    for object in objects {
+        write_loaded_line(text, object)?;
+    }
+    Ok(())
 }
 
 // Adds the line of a loaded object.
@@ -30,6 +40,37 @@ fn write_loaded_line(text: &mut String, object: &LoadedObject) -> Result<(), All
     ensures { OnOk result (string_bytes text.new ≡ string_bytes text.old ++ loaded_line object.now) }
 {
     writeln!(text, "loaded {} {}", object.object, object.name)
+}
+
+// Adds the lines of the groups that were kept.
+fn write_kept_lines(text: &mut String, groups: &[KeptGroup]) -> Result<(), AllocError>
+    ensures { OnOk result (string_bytes text.new ≡ string_bytes text.old ++ flat_map kept_line groups.now) }
+{
+    for group in groups {
+        write_kept_line(text, group)?;
+    }
+    Ok(())
+}
+
+// Adds the line of a group that was kept.
+fn write_kept_line(text: &mut String, group: &KeptGroup) -> Result<(), AllocError>
+    ensures { OnOk result (string_bytes text.new ≡ string_bytes text.old ++ kept_line group.now) }
+{
+    writeln!(
+        text,
+        "kept {} {} {}",
+        group.object, group.group, group.signature
+    )
+}
+
+// Adds the lines of the symbols, of which the first has the id 0.
+fn write_symbol_lines(text: &mut String, symbols: &[LinkedSymbol]) -> Result<(), AllocError>
+    ensures { OnOk result (string_bytes text.new ≡ string_bytes text.old ++ joined_lines (each_from symbol_line 0 symbols.now)) }
+{
+    for (id, symbol) in symbols.iter().enumerate() {
+        write_symbol_line(text, id, symbol)?;
+    }
+    Ok(())
 }
 
 // Adds the line of a symbol.
@@ -52,9 +93,65 @@ fn write_symbol_name(text: &mut String, name: &Name) -> Result<(), AllocError>
     }
 }
 
+// Adds the lines of the versions that were given.
+fn write_version_lines(text: &mut String, versions: &[GivenVersion]) -> Result<(), AllocError>
+    ensures { OnOk result (string_bytes text.new ≡ string_bytes text.old ++ flat_map version_line versions.now) }
+{
+    for version in versions {
+        write_version_line(text, version)?;
+    }
+    Ok(())
+}
+
+// Adds the line of a version that was given.
+fn write_version_line(text: &mut String, version: &GivenVersion) -> Result<(), AllocError>
+    ensures { OnOk result (string_bytes text.new ≡ string_bytes text.old ++ version_line version.now) }
+{
+    writeln!(text, "version {} {}", version.symbol, version.index)
+}
+
+// Adds the lines of the undefined names.
+fn write_undefined_lines(text: &mut String, names: &[UndefinedName]) -> Result<(), AllocError>
+    ensures { OnOk result (string_bytes text.new ≡ string_bytes text.old ++ flat_map undefined_line names.now) }
+{
+    for name in names {
+        write_undefined_line(text, name)?;
+    }
+    Ok(())
+}
+
 // Adds the line of an undefined name.
 fn write_undefined_line(text: &mut String, undefined: &UndefinedName) -> Result<(), AllocError>
     ensures { OnOk result (string_bytes text.new ≡ string_bytes text.old ++ undefined_line undefined.now) }
 {
-    writeln!(text, "undefined {} {}", undefined.symbol, undefined.name)
+    write!(text, "undefined {} {}", undefined.symbol, undefined.name)?;
+    write_version(text, &undefined.version)?;
+    text.push_str("\n")
+}
+
+// Adds the version of a name, where it has one.
+fn write_version(text: &mut String, version: &Option<Name>) -> Result<(), AllocError>
+    ensures { OnOk result (string_bytes text.new ≡ string_bytes text.old ++ version_text version.now) }
+{
+    match version {
+        None => Ok(()),
+        Some(version) => write!(text, "@{version}"),
+    }
+}
+
+// Adds the lines of the required names that nothing defines.
+fn write_missing_lines(text: &mut String, names: &[Name]) -> Result<(), AllocError>
+    ensures { OnOk result (string_bytes text.new ≡ string_bytes text.old ++ flat_map missing_line names.now) }
+{
+    for name in names {
+        write_missing_line(text, name)?;
+    }
+    Ok(())
+}
+
+// Adds the line of a required name that nothing defines.
+fn write_missing_line(text: &mut String, name: &Name) -> Result<(), AllocError>
+    ensures { OnOk result (string_bytes text.new ≡ string_bytes text.old ++ missing_line name.now) }
+{
+    writeln!(text, "missing {name}")
 }

@@ -2,7 +2,12 @@
 use crate::{refusal_text, report_text};
 use bitflags::Flags;
 use link_ids::{Name, Seq, SymbolId, ValueFlags};
-use link_rules::{LinkError, Linked, LinkedSymbol, LoadedObject, TooManyKind, UndefinedName};
+use link_input::TooManyKind;
+use link_rules::{
+    GivenVersion, KeptGroup, LinkError, Linked, LinkedSymbol, LoadedObject, ScriptOrigin,
+    UndefinedName,
+};
+use link_script::{Language, ScriptError, ScriptErrorKind};
 use std::alloc::{AllocError, Global};
 use std::test::Fail;
 
@@ -24,8 +29,11 @@ fn linked(
 ) -> Result<Linked, AllocError> {
     let mut answer = Linked {
         loaded: Seq::new(alloc),
+        kept: Seq::new(alloc),
         symbols: Seq::new(alloc),
+        versions: Seq::new(alloc),
         undefined: Seq::new(alloc),
+        missing: Seq::new(alloc),
     };
     for (object, name) in loaded {
         answer.loaded.push(LoadedObject {
@@ -44,6 +52,7 @@ fn linked(
         answer.undefined.push(UndefinedName {
             symbol: SymbolId::from_usize(*symbol as usize),
             name: Name::from_slice(alloc, name)?,
+            version: None,
         })?;
     }
     Ok(answer)
@@ -135,6 +144,39 @@ undefined 1 \nundefined 12 INVALID UTF-8([128])
     Ok(())
 }
 
+/// One line of each kind.
+#[test]
+fn the_lines_of_groups_versions_and_missing_names(rt: HostRuntime) -> Result<(), Fail> {
+    let alloc = rt.alloc();
+    let mut answer = linked(alloc, &[(0, b"a.o".as_slice())], &[], &[])?;
+    for (group, signature) in [(0, b"f".as_slice()), (12, b"".as_slice())] {
+        answer.kept.push(KeptGroup {
+            object: 3,
+            group,
+            signature: Name::from_slice(alloc, signature)?,
+        })?;
+    }
+    answer.versions.push(GivenVersion {
+        symbol: SymbolId::from_usize(2),
+        index: 32_767,
+    })?;
+    answer.undefined.push(UndefinedName {
+        symbol: SymbolId::from_usize(4),
+        name: Name::from_slice(alloc, b"foo")?,
+        version: Some(Name::from_slice(alloc, b"V1")?),
+    })?;
+    answer.missing.push(Name::from_slice(alloc, b"\xff")?)?;
+    let text = "\
+loaded 0 a.o
+kept 3 0 f
+kept 3 12 \nversion 2 32767
+undefined 4 foo@V1
+missing INVALID UTF-8([255])
+";
+    assert!(rt; report_text(alloc, &answer)?.as_slice() == text.as_bytes());
+    Ok(())
+}
+
 #[test]
 fn the_text_of_a_refusal(rt: HostRuntime) -> Result<(), Fail> {
     let alloc = rt.alloc();
@@ -163,6 +205,44 @@ fn the_text_of_a_refusal(rt: HostRuntime) -> Result<(), Fail> {
             b"Too many symbols: 18446744073709551615".as_slice(),
         ),
         (LinkError::NoInputs, b"no input files".as_slice()),
+        (
+            LinkError::Script {
+                origin: ScriptOrigin::LinkerScript(2),
+                error: ScriptError {
+                    at: 26,
+                    kind: ScriptErrorKind::Syntax,
+                },
+            },
+            b"Failed to parse version script of linker script 2: Syntax error at 26".as_slice(),
+        ),
+        (
+            LinkError::Script {
+                origin: ScriptOrigin::ForcedExport(0),
+                error: ScriptError {
+                    at: 9,
+                    kind: ScriptErrorKind::UnexpectedExtern(Language::Cxx),
+                },
+            },
+            b"Failed to parse forced export 0: Unexpected extern \"C++\" in parsing at 9".as_slice(),
+        ),
+        (
+            LinkError::MultipleVersionScripts(1),
+            b"Multiple version scripts provided".as_slice(),
+        ),
+        (
+            LinkError::SectionInTwoGroups {
+                file: Name::from_slice(alloc, b"a.o")?,
+                section: 2,
+            },
+            b"a.o: section 2 belongs to multiple groups".as_slice(),
+        ),
+        (
+            LinkError::UndefinedVersion {
+                name: Name::from_slice(alloc, b"foo")?,
+                version: Name::from_slice(alloc, b"X")?,
+            },
+            b"Symbol foo has undefined version X".as_slice(),
+        ),
         (
             LinkError::DuplicateSymbols(Seq::from_vec(vec![in alloc; one.clone()?]?)),
             b"Duplicate symbols detected: foo, defined in a.o and b.o".as_slice(),

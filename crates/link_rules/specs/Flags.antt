@@ -1,49 +1,19 @@
--- The flags of a symbol's value, as the bits of a number.
-use Rattle.std.specs.Prelude.{ℕ, ◌&&◌, ◌||◌, List, Bool, true, false, is_some, if◌then◌else◌}
-use Rattle.std.specs.Int.RustNames.{bit_or}
-use Rattle.std.specs.List.{list_any}
-use Rattle.link_input.specs.declared.symbol_entry.Place.{Place}
-use Rattle.link_input.specs.declared.symbol_entry.Place.TheVariants.{Undefined as Nowhere, Absolute, Common as InCommon, Section}
-use Rattle.link_rules.specs.declared.symbol.Symbol.{Symbol}
-use Rattle.link_rules.specs.Places.{is_number}
-use Rattle.link_rules.specs.World.{is_definition, is_local}
-use Rattle.link_rules.specs.Loading.{target, is_loaded}
-use Rattle.link_rules.specs.Undefined.{is_canonical}
+-- Sets of flags, as numbers whose bits are the flags.
+use Rattle.std.specs.Prelude.{ℕ, ◌-◌, List, Bool, if◌then◌else◌, fold}
+use Rattle.std.specs.Int.RustNames.{bit_and, bit_or}
 
-abbrev pub ABSOLUTE : ℕ
-ABSOLUTE = 0x1
+-- these flags where a test holds, else none
+abbrev pub flags_if : Bool → ℕ → ℕ
+flags_if b flags = if b then flags else 0
 
-abbrev pub NON_INTERPOSABLE : ℕ
-NON_INTERPOSABLE = 0x8
+-- all flags of some sets
+abbrev pub joined_flags : List ℕ → ℕ
+joined_flags sets = fold bit_or 0 sets
 
-abbrev pub HAS_NON_IR_REF : ℕ
-HAS_NON_IR_REF = 0x1_0000
+-- each of the 22 flags
+abbrev pub all_flags : ℕ
+all_flags = 0x3f_ffff
 
--- these bits where a test holds, else none
-abbrev pub bits_if : Bool → ℕ → ℕ
-bits_if b bits = if b then bits else 0
-
--- its value does not move with a section
-abbrev pub is_fixed : Place → Bool
-is_fixed Nowhere = true
-is_fixed Absolute = true
-is_fixed InCommon = false
-is_fixed (Section n) = false
-
--- no other file can take its place at run time: in a static output, what an object defines or keeps to itself
-abbrev pub is_non_interposable : Symbol → Bool
-is_non_interposable x = is_some x.object && (is_local x.binding || is_definition x)
-
--- the flags of a symbol as its file is read
-abbrev pub opening_flags : Symbol → ℕ
-opening_flags x = bit_or (bits_if (is_fixed x.place) ABSOLUTE) (bits_if (is_non_interposable x) NON_INTERPOSABLE)
-
--- some reference of a loaded object has it as its target
-abbrev pub is_referenced : List Symbol → List Bool → ℕ → Bool
-is_referenced symbols marks s = list_any (λ u. is_loaded marks u && is_number (target symbols u) s) symbols
-
--- the flags in the end
-abbrev pub final_flags : List Symbol → List Bool → ℕ → Symbol → ℕ
-final_flags symbols marks s x =
-    bit_or (opening_flags x)
-    (bit_or (bits_if (is_referenced symbols marks s) HAS_NON_IR_REF) (bits_if (is_canonical symbols marks s x) NON_INTERPOSABLE))
+-- a set without a flag
+abbrev pub without_flag : ℕ → ℕ → ℕ
+without_flag flags flag = bit_and flags (all_flags - flag)

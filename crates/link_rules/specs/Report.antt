@@ -1,22 +1,28 @@
 -- The report of a link, line by line, and the text of a refusal.
-use Rattle.std.specs.Prelude.{◌≡◌, ℕ, List, [], ◌∷◌, ◌++◌, codes, decimal}
+use Rattle.std.specs.Prelude.{ℕ, List, [], ◌∷◌, ◌++◌, Option, Some, None, codes, decimal}
 use Rattle.std.specs.List.{flat_map}
 use Rattle.link_ids.specs.NameText.{name_text}
 use Rattle.link_ids.specs.FlagText.{flags_text}
-use Rattle.link_input.specs.declared.object.ParsedInputObject.{ParsedInputObject}
+use Rattle.link_script.specs.ErrorText.{error_text}
 use Rattle.link_rules.specs.declared.linked.LoadedObject.{LoadedObject}
+use Rattle.link_rules.specs.declared.linked.KeptGroup.{KeptGroup}
 use Rattle.link_rules.specs.declared.linked.LinkedSymbol.{LinkedSymbol}
+use Rattle.link_rules.specs.declared.linked.GivenVersion.{GivenVersion}
 use Rattle.link_rules.specs.declared.linked.UndefinedName.{UndefinedName}
 use Rattle.link_rules.specs.declared.linked.Linked.{Linked}
-use Rattle.link_rules.specs.declared.refusal.TooManyKind.{TooManyKind}
-use Rattle.link_rules.specs.declared.refusal.TooManyKind.TheVariants.{Objects, Sections, Symbols}
+use Rattle.link_rules.specs.declared.refusal.ScriptOrigin.{ScriptOrigin}
+use Rattle.link_rules.specs.declared.refusal.ScriptOrigin.TheVariants.{VersionScript, ExportList, ForcedExport, LinkerScript}
+use Rattle.link_input.specs.declared.too_many.TooManyKind.{TooManyKind}
+use Rattle.link_input.specs.declared.too_many.TooManyKind.TheVariants.{Objects, LinkerScripts, StubLibraries, Sections, Symbols}
 use Rattle.link_rules.specs.declared.refusal.LinkError.{LinkError}
-use Rattle.link_rules.specs.declared.refusal.LinkError.TheVariants.{TooMany, NoInputs, DuplicateSymbols, Memory}
+use Rattle.link_rules.specs.declared.refusal.LinkError.TheVariants.{Script, MultipleVersionScripts, TooMany, NoInputs, SectionInTwoGroups, DuplicateSymbols, UndefinedVersion, Memory}
 use Rattle.link_rules.specs.Places.{Bytes, each_from}
-use Rattle.link_rules.specs.Answer.{IsLinked, IsRefused}
 
 abbrev pub loaded_line : LoadedObject → Bytes
 loaded_line o = codes "loaded " ++ decimal o.object ++ codes " " ++ name_text o.name ++ codes "\n"
+
+abbrev pub kept_line : KeptGroup → Bytes
+kept_line g = codes "kept " ++ decimal g.object ++ codes " " ++ decimal g.group ++ codes " " ++ name_text g.signature ++ codes "\n"
 
 -- an empty name is shown only here
 abbrev pub symbol_name : Bytes → Bytes
@@ -28,8 +34,19 @@ symbol_line s x =
     codes "symbol " ++ decimal s ++ codes " " ++ symbol_name x.name ++ codes " -> " ++ decimal x.definition
     ++ codes " [" ++ flags_text x.flags.0 ++ codes "]\n"
 
+abbrev pub version_line : GivenVersion → Bytes
+version_line v = codes "version " ++ decimal v.symbol ++ codes " " ++ decimal v.index ++ codes "\n"
+
+-- the version of a name, where it has one
+abbrev pub version_text : Option Bytes → Bytes
+version_text None = []
+version_text (Some version) = codes "@" ++ name_text version
+
 abbrev pub undefined_line : UndefinedName → Bytes
-undefined_line u = codes "undefined " ++ decimal u.symbol ++ codes " " ++ name_text u.name ++ codes "\n"
+undefined_line u = codes "undefined " ++ decimal u.symbol ++ codes " " ++ name_text u.name ++ version_text u.version ++ codes "\n"
+
+abbrev pub missing_line : Bytes → Bytes
+missing_line name = codes "missing " ++ name_text name ++ codes "\n"
 
 -- lines one after another
 abbrev pub joined_lines : List Bytes → Bytes
@@ -37,29 +54,36 @@ joined_lines lines = flat_map (λ line. line) lines
 
 abbrev pub report_text : Linked → Bytes
 report_text linked =
-    flat_map loaded_line linked.loaded ++ joined_lines (each_from symbol_line 0 linked.symbols)
-    ++ flat_map undefined_line linked.undefined
+    flat_map loaded_line linked.loaded ++ flat_map kept_line linked.kept ++ joined_lines (each_from symbol_line 0 linked.symbols)
+    ++ flat_map version_line linked.versions ++ flat_map undefined_line linked.undefined ++ flat_map missing_line linked.missing
 
 -- texts with a line feed between two
 abbrev pub separated_lines : List Bytes → Bytes
 separated_lines [] = []
 separated_lines (x ∷ xs) = x ++ flat_map (λ y. codes "\n" ++ y) xs
 
+-- which text it was that is no script
+abbrev pub origin_text : ScriptOrigin → Bytes
+origin_text VersionScript = codes "version script"
+origin_text ExportList = codes "symbol export list"
+origin_text (ForcedExport i) = codes "forced export " ++ decimal i
+origin_text (LinkerScript i) = codes "version script of linker script " ++ decimal i
+
 abbrev pub kind_text : TooManyKind → Bytes
 kind_text Objects = codes "objects"
+kind_text LinkerScripts = codes "linker scripts"
+kind_text StubLibraries = codes "stub libraries"
 kind_text Sections = codes "sections"
 kind_text Symbols = codes "symbols"
 
 abbrev pub refusal_text : LinkError → Bytes
+refusal_text (Script origin error) = codes "Failed to parse " ++ origin_text origin ++ codes ": " ++ error_text error
+refusal_text (MultipleVersionScripts script) = codes "Multiple version scripts provided"
 refusal_text (TooMany kind count) = codes "Too many " ++ kind_text kind ++ codes ": " ++ decimal count
 refusal_text NoInputs = codes "no input files"
+refusal_text (SectionInTwoGroups file section) =
+    name_text file ++ codes ": section " ++ decimal section ++ codes " belongs to multiple groups"
 refusal_text (DuplicateSymbols lines) = codes "Duplicate symbols detected: " ++ separated_lines lines
+refusal_text (UndefinedVersion name version) =
+    codes "Symbol " ++ name_text name ++ codes " has undefined version " ++ name_text version
 refusal_text Memory = codes "out of memory"
-
--- the report on a link of these objects
-abbrev pub IsReport : List ParsedInputObject → Bytes → Type 0
-IsReport objects text = (linked : Linked) × IsLinked objects linked × (text ≡ report_text linked)
-
--- the text of the first cause for which a link of these objects is refused
-abbrev pub IsRefusalText : List ParsedInputObject → Bytes → Type 0
-IsRefusalText objects text = (error : LinkError) × IsRefused objects error × (text ≡ refusal_text error)

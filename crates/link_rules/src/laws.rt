@@ -1,27 +1,28 @@
 // Laws about the definitions alone. Each is a function that does nothing: its contract is the law.
 ghost use Rattle.std.specs.Prelude.{◌≡◌, List, [], ◌∷◌, Bool, true, false, Some, codes};
-ghost use Rattle.link_input.specs.declared.object.ParsedInputObject.{ParsedInputObject};
+ghost use Rattle.link_input.specs.ObjectFile.{ObjectFile};
 ghost use Rattle.link_rules.specs.declared.linked.Linked.{Linked};
 ghost use Rattle.link_rules.specs.declared.refusal.LinkError.{LinkError};
 ghost use Rattle.link_rules.specs.Places.{Bytes};
-ghost use Rattle.link_rules.specs.Loading.{IsLoaded};
+ghost use Rattle.link_rules.specs.Plain.Loading.{IsLoaded};
 ghost use Rattle.link_rules.specs.declared.refusal.LinkError.TheVariants.{NoInputs};
-ghost use Rattle.link_rules.specs.World.{symbols_of};
-ghost use Rattle.link_rules.specs.Rivals.{duplicates};
-ghost use Rattle.link_rules.specs.Table.{table_of};
-ghost use Rattle.link_rules.specs.Answer.{IsLinked, IsRefused, answer_of, early_refusal};
-ghost use Rattle.link_rules.specs.Examples.{chain, rivals, outdone, undefined_twice};
-ghost use Rattle.link_rules.specs.Report.{IsReport, IsRefusalText, report_text};
+ghost use Rattle.link_rules.specs.Plain.World.{symbols_of};
+ghost use Rattle.link_rules.specs.Plain.Rivals.{duplicates};
+ghost use Rattle.link_rules.specs.Plain.Table.{table_of};
+ghost use Rattle.link_rules.specs.Plain.Answer.{IsLinked, IsRefused, answer_of, early_refusal};
+ghost use Rattle.link_rules.specs.Plain.Examples.{chain, rivals, outdone, undefined_twice};
+ghost use Rattle.link_rules.specs.Report.{report_text};
+ghost use Rattle.link_rules.specs.Plain.Report.{IsReport, IsRefusalText};
 
 /// Some objects have one set of loaded objects, one answer and one report; one cause for which they are refused, with one
 /// text; and they are never both linked and refused.
 pub fn one_answer()
-    ensures loaded { (objects : List ParsedInputObject) (a b : List Bool) → IsLoaded objects a → IsLoaded objects b → a ≡ b }
-    ensures linked { (objects : List ParsedInputObject) (a b : Linked) → IsLinked objects a → IsLinked objects b → a ≡ b }
-    ensures report { (objects : List ParsedInputObject) (a b : Bytes) → IsReport objects a → IsReport objects b → a ≡ b }
-    ensures refusal { (objects : List ParsedInputObject) (a b : LinkError) → IsRefused objects a → IsRefused objects b → a ≡ b }
-    ensures refusal_text { (objects : List ParsedInputObject) (a b : Bytes) → IsRefusalText objects a → IsRefusalText objects b → a ≡ b }
-    ensures not_both { (objects : List ParsedInputObject) (linked : Linked) (error : LinkError) → IsLinked objects linked → IsRefused objects error → ⊥ }
+    ensures loaded { (objects : List ObjectFile) (a b : List Bool) → IsLoaded objects a → IsLoaded objects b → a ≡ b }
+    ensures linked { (objects : List ObjectFile) (a b : Linked) → IsLinked objects a → IsLinked objects b → a ≡ b }
+    ensures report { (objects : List ObjectFile) (a b : Bytes) → IsReport objects a → IsReport objects b → a ≡ b }
+    ensures refusal { (objects : List ObjectFile) (a b : LinkError) → IsRefused objects a → IsRefused objects b → a ≡ b }
+    ensures refusal_text { (objects : List ObjectFile) (a b : Bytes) → IsRefusalText objects a → IsRefusalText objects b → a ≡ b }
+    ensures not_both { (objects : List ObjectFile) (linked : Linked) (error : LinkError) → IsLinked objects linked → IsRefused objects error → ⊥ }
 {}
 
 /// Worked examples, which the checker computes: what the definitions say of small worlds, where these objects are loaded.

@@ -1,24 +1,48 @@
 // Why a link is refused.
 use link_ids::{Name, Seq};
+use link_input::TooManyKind;
+use link_script::ScriptError;
 use std::alloc::AllocError;
 
-/// What there can be too many of.
+/// Which text of a link a script is. Forced export names and linker scripts count from 0.
 #[derive(Clone, Copy, Debug, PartialEq, Eq)]
-pub enum TooManyKind {
-    Objects,
-    Sections,
-    Symbols,
+pub enum ScriptOrigin {
+    VersionScript,
+    ExportList,
+    ForcedExport(usize),
+    /// The version script in this linker script.
+    LinkerScript(usize),
 }
 
 /// Why a link is refused. Where several causes stand together, the one that comes first here is told.
 #[derive(Debug, Drop)]
 pub enum LinkError {
+    /// A text is no script: the version script, the export list, forced export names, and linker scripts, in this order.
+    Script {
+        origin: ScriptOrigin,
+        error: ScriptError,
+    },
+    /// This linker script has a version script, and one was given before.
+    MultipleVersionScripts(usize),
     /// More of these than ids can name.
-    TooMany { kind: TooManyKind, count: u128 },
+    TooMany {
+        kind: TooManyKind,
+        count: u128,
+    },
     /// There is no object.
     NoInputs,
+    /// A loaded object of this file lists a section as a member twice.
+    SectionInTwoGroups {
+        file: Name,
+        section: u32,
+    },
     /// Names that two loaded objects define: a line for each, sorted by their bytes.
     DuplicateSymbols(Seq<Name>),
+    /// A definition asks for a version that the version script doesn't declare.
+    UndefinedVersion {
+        name: Name,
+        version: Name,
+    },
     /// Memory ran out. It may come in place of any other answer.
     Memory,
 }

@@ -1,6 +1,6 @@
 use Rattle.std.proofs.Common.{◌≡◌, ◌++◌, drop}
 use Rattle.link_rules.specs.Places.{each_from}
-use Rattle.link_rules.specs.Undefined.{is_canonical}
+use Rattle.link_rules.specs.Plain.Undefined.{is_canonical}
 use Rattle.link_core.proofs.answer.canonical_marks.Given as goal
 
 abbrev pub invariant-loop-i : goal.invariant-loop-i

@@ -2,8 +2,8 @@ use Rattle.std.proofs.Common.{◌≡◌, ◌∙◌, ◌<◌, false, length, arit
 use Rattle.std.proofs.lemmas.Grind.{common_steps}
 use Rattle.link_closure.specs.Closure.{is_marked}
 use Rattle.link_rules.specs.Places.{each_from}
-use Rattle.link_rules.specs.Undefined.{is_canonical}
-use Rattle.link_rules.specs.Flags.{is_referenced, final_flags}
+use Rattle.link_rules.specs.Plain.Undefined.{is_canonical}
+use Rattle.link_rules.specs.Plain.Flags.{is_referenced, final_flags}
 use Rattle.link_core.proofs.EachFrom.{each-at-first}
 use Rattle.link_core.proofs.answer.linked_symbols.Goals as goal
 

@@ -1,6 +1,6 @@
 use Rattle.std.proofs.Common.{◌≡◌, ◌++◌, drop}
 use Rattle.link_rules.specs.Places.{each_from}
-use Rattle.link_rules.specs.Answer.{linked_symbol}
+use Rattle.link_rules.specs.Plain.Answer.{linked_symbol}
 use Rattle.link_core.proofs.answer.linked_symbols.Given as goal
 
 abbrev pub invariant-loop-i : goal.invariant-loop-i

@@ -2,7 +2,7 @@ use Rattle.std.proofs.Common.{◌≡◌, ◌∙◌, false, arith}
 use Rattle.std.proofs.lemmas.Grind.{common_steps}
 use Rattle.link_closure.specs.Closure.{is_marked}
 use Rattle.link_rules.specs.Places.{each_from}
-use Rattle.link_rules.specs.Undefined.{is_canonical}
+use Rattle.link_rules.specs.Plain.Undefined.{is_canonical}
 use Rattle.link_core.proofs.EachFrom.{each-at-first}
 use Rattle.link_core.proofs.answer.undefined_names.Goals as goal
 

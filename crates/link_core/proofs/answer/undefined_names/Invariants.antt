@@ -1,6 +1,6 @@
 use Rattle.std.proofs.Common.{◌≡◌, ◌++◌, drop}
 use Rattle.link_rules.specs.Places.{some_from}
-use Rattle.link_rules.specs.Answer.{undefined_name}
+use Rattle.link_rules.specs.Plain.Answer.{undefined_name}
 use Rattle.link_core.proofs.answer.undefined_names.Given as goal
 
 abbrev pub invariant-loop-i : goal.invariant-loop-i

@@ -2,8 +2,8 @@ use Rattle.std.proofs.Common.{◌≡◌, ◌||◌, ◌&&◌, ℕ, ◌<◌, lengt
 use Rattle.std.specs.List.{list_any}
 use Rattle.link_closure.specs.Closure.{is_marked}
 use Rattle.link_rules.specs.Places.{is_number}
-use Rattle.link_rules.specs.Loading.{target, is_loaded}
-use Rattle.link_rules.specs.Flags.{is_referenced}
+use Rattle.link_rules.specs.Plain.Loading.{target, is_loaded}
+use Rattle.link_rules.specs.Plain.Flags.{is_referenced}
 use Rattle.link_core.proofs.flags.referenced_symbols.Given as goal
 
 abbrev pub invariant-loop-i : goal.invariant-loop-i

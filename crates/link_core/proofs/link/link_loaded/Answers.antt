@@ -5,7 +5,7 @@ use Rattle.link_core.proofs.Sorting.{sorted-none, sorted-some}
 use Rattle.link_core.proofs.link.link_loaded.Goals as goal
 
 pub returns-then-not-is_empty-clause-refused : goal.returns-then-not-is_empty-clause-refused
-returns-then-not-is_empty-clause-refused c =
+returns-then-not-is_empty-clause-refused g c =
     let some : (length c.in_ok-duplicates.duplicates.items == 0) ≡ false = grind (arith, common_steps) in
     inl (rw c.requires.early (record {
       marks = c.args.loaded.now;
@@ -17,7 +17,7 @@ returns-then-not-is_empty-clause-refused c =
     }))
 
 pub returns-clause-linked : goal.returns-clause-linked
-returns-clause-linked c =
+returns-clause-linked g c =
     let none : (length c.in_ok-duplicates.duplicates.items == 0) ≡ true = grind (arith, common_steps) in
     record {
       starts = c.requires.early;

@@ -2,8 +2,8 @@ use Rattle.std.proofs.Common.{◌∙◌}
 use Rattle.link_core.proofs.LoadedFrom.{Given, loaded-from, edges_are-in_range, ok-along}
 use Rattle.link_core.proofs.loading.loaded_objects.Goals as goal
 
-given : (c : goal.After-deref-2) → Given c.args.objects.now c.args.symbols.now c.args.targets.now c.deref.result.now c.deref-2.result.now
-given c = record {
+given : (g : _) (c : goal.After-deref-2 g) → Given c.args.objects.now c.args.symbols.now c.args.targets.now c.deref.result.now c.deref-2.result.now
+given g c = record {
   symbols_are = c.requires.symbols;
   targets_are = c.requires.targets;
   roots_are = c.deref.ensures.value ∙ c.in_ok-roots.ensures;
@@ -11,10 +11,10 @@ given c = record {
 }
 
 pub least_closed-requires : goal.least_closed-requires
-least_closed-requires c = record { in_range = edges_are-in_range _ _ _ _ _ (given c) }
+least_closed-requires g c = record { in_range = edges_are-in_range _ _ _ _ _ (given g c) }
 
 pub returns : goal.returns
-returns c =
+returns g c =
     let given : Given c.args.objects.now c.args.symbols.now c.args.targets.now c.deref.result.now c.deref-2.result.now = record {
       symbols_are = c.requires.symbols;
       targets_are = c.requires.targets;

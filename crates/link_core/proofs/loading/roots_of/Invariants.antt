@@ -3,4 +3,4 @@ use Rattle.link_rules.specs.World.{is_optional}
 use Rattle.link_core.proofs.loading.roots_of.Given as goal
 
 abbrev pub invariant-loop-object : goal.invariant-loop-object
-invariant-loop-object l = l.roots.items ≡ map (λ o. not (is_optional o)) (take l.object-index l.objects)
+invariant-loop-object g l = l.roots.items ≡ map (λ o. not (is_optional o)) (take l.object-index l.objects)

@@ -1,7 +1,7 @@
 use Rattle.std.proofs.Common.{◌≡◌, ℕ, if◌then◌else◌, Option, None, arith, ap, ◌∙◌}
 use Rattle.std.proofs.lemmas.Grind.{common_steps}
-use Rattle.link_rules.specs.World.{is_reference}
-use Rattle.link_rules.specs.Loading.{target}
+use Rattle.link_rules.specs.Plain.World.{is_reference}
+use Rattle.link_rules.specs.Plain.Loading.{target}
 use Rattle.link_core.proofs.loading.targets_of.Goals as goal
 
 pub loop-symbol-preserved : goal.loop-symbol-preserved

@@ -2,7 +2,7 @@ use Rattle.std.proofs.Common.{◌≡◌, ◌∙◌, ◌&&◌, [], drop, arith}
 use Rattle.std.specs.Str.{bytes_eq}
 use Rattle.std.proofs.lemmas.Grind.{common_steps}
 use Rattle.link_rules.specs.Places.{places_from}
-use Rattle.link_rules.specs.Undefined.{is_left}
+use Rattle.link_rules.specs.Plain.Undefined.{is_left}
 use Rattle.link_core.proofs.Noting.{last-noted}
 use Rattle.link_core.proofs.names.canonical_references.Goals as goal
 

@@ -1,7 +1,7 @@
 use Rattle.std.proofs.Common.{◌≡◌, ◌&&◌, ℕ, List, drop, None}
 use Rattle.std.specs.Str.{bytes_eq}
 use Rattle.link_rules.specs.Places.{places_from}
-use Rattle.link_rules.specs.Undefined.{is_left}
+use Rattle.link_rules.specs.Plain.Undefined.{is_left}
 use Rattle.link_core.specs.Found.{found, last_or}
 use Rattle.link_core.proofs.names.canonical_references.Given as goal
 

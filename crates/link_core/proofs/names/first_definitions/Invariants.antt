@@ -1,7 +1,7 @@
 use Rattle.std.proofs.Common.{◌≡◌, ℕ, List, drop}
 use Rattle.std.specs.Option.{option_or}
 use Rattle.link_rules.specs.Places.{places_from, first_of}
-use Rattle.link_rules.specs.Lists.{defines, first_definition}
+use Rattle.link_rules.specs.Plain.Lists.{defines, first_definition}
 use Rattle.link_core.specs.Found.{found}
 use Rattle.link_core.proofs.names.first_definitions.Given as goal
 

@@ -1,6 +1,6 @@
 use Rattle.std.proofs.Common.{◌≡◌, ◌∙◌, [], drop, arith}
 use Rattle.std.proofs.lemmas.Grind.{common_steps}
-use Rattle.link_rules.specs.Rivals.{loaded_definitions}
+use Rattle.link_rules.specs.Plain.Rivals.{loaded_definitions}
 use Rattle.link_core.proofs.Noting.{noted-pair}
 use Rattle.link_core.proofs.names.loaded_definitions.Goals as goal
 

@@ -1,8 +1,8 @@
 use Rattle.std.proofs.Common.{◌≡◌, ◌&&◌, ℕ, List, drop, None}
 use Rattle.link_rules.specs.Places.{places_from}
-use Rattle.link_rules.specs.Lists.{defines}
-use Rattle.link_rules.specs.Loading.{is_loaded}
-use Rattle.link_rules.specs.Rivals.{loaded_definitions}
+use Rattle.link_rules.specs.Plain.Lists.{defines}
+use Rattle.link_rules.specs.Plain.Loading.{is_loaded}
+use Rattle.link_rules.specs.Plain.Rivals.{loaded_definitions}
 use Rattle.link_core.specs.Found.{found, noted_all}
 use Rattle.link_core.proofs.names.loaded_definitions.Given as goal
 

@@ -1,7 +1,7 @@
 use Rattle.std.proofs.Common.{◌≡◌, ◌∙◌, None, get_or, arith}
 use Rattle.std.proofs.lemmas.Grind.{common_steps}
-use Rattle.link_rules.specs.Loading.{target}
-use Rattle.link_rules.specs.Table.{table_entry}
+use Rattle.link_rules.specs.Plain.Loading.{target}
+use Rattle.link_rules.specs.Plain.Table.{table_entry}
 use Rattle.link_core.proofs.Rivaling.{entry-is}
 use Rattle.link_core.proofs.table.table_of.Goals as goal
 

@@ -1,6 +1,6 @@
 use Rattle.std.proofs.Common.{◌≡◌, ◌++◌, drop}
 use Rattle.link_rules.specs.Places.{each_from}
-use Rattle.link_rules.specs.Table.{table_of, table_entry}
+use Rattle.link_rules.specs.Plain.Table.{table_of, table_entry}
 use Rattle.link_core.proofs.table.table_of.Given as goal
 
 abbrev pub invariant-loop-i : goal.invariant-loop-i

@@ -1,0 +1,5 @@
+pub mod Runs
+pub mod Cutting
+pub mod AddsLemmas
+pub mod Whole
+pub mod Asking

@@ -1,0 +1,22 @@
+//! The inputs of a link in groups, which are read side by side, with the ids of their files, symbols and sections.
+#![tactic(auto)]
+
+mod cut;
+mod group;
+mod grouping;
+mod groups_error;
+mod limits;
+mod pushing;
+mod sequenced;
+mod sequenced_input;
+mod sequencing;
+#[cfg(test)]
+mod tests;
+
+pub use group::Group;
+pub use grouping::create_groups;
+pub use groups_error::GroupsError;
+pub use sequenced::{
+    SequencedInputObject, SequencedLinkerScript, SequencedStubLibrary, StubSymbol, SyntheticSymbols,
+};
+pub use sequenced_input::SequencedInput;

@@ -1,0 +1,130 @@
+// One file of a group.
+ghost use Rattle.std.specs.Prelude.{◌≡◌, Some, option_map};
+ghost use Rattle.link_ids.specs.Span.{IsInside, offset_in};
+ghost use Rattle.link_groups.specs.InputFiles.{is_optional_file, is_shared_file, name_at, section_at, strength_at, symbol_count, version_at};
+ghost use Rattle.link_groups.specs.SequencedInputs.{sequenced_file};
+
+use crate::sequenced::{
+    SequencedInputObject, SequencedLinkerScript, SequencedStubLibrary, SyntheticSymbols,
+};
+use link_ids::{InputSectionId, Name, SymbolId, SymbolStrength};
+use link_input::{Platform, Prelude};
+use std::fmt;
+
+/// One file of a group. Mirrors Wild's `SequencedInput`.
+#[derive(Drop)]
+pub enum SequencedInput<'a, P: Platform> {
+    Prelude(&'a Prelude),
+    Object(&'a SequencedInputObject<P>),
+    LinkerScript(&'a SequencedLinkerScript),
+    StubLibrary(&'a SequencedStubLibrary),
+    SyntheticSymbols(&'a SyntheticSymbols),
+}
+
+impl<P: Platform> SequencedInput<'_, P> {
+    /// The name of a symbol of the file.
+    pub fn symbol_name(&self, id: SymbolId) -> &Name
+        requires table { (sequenced_file self.now).symbols.len ≡ symbol_count (sequenced_file self.now).file }
+        requires inside { IsInside (sequenced_file self.now).symbols id }
+        ensures { name_at (sequenced_file self.now).file (offset_in (sequenced_file self.now).symbols id) ≡ Some result.now }
+    {
+        match self {
+            SequencedInput::Prelude(prelude) => prelude.symbol_name(id),
+            SequencedInput::Object(object) => object.symbol_name(id),
+            SequencedInput::LinkerScript(script) => script.symbol_name(id),
+            SequencedInput::StubLibrary(stub) => stub.symbol_name(id),
+            SequencedInput::SyntheticSymbols(_) => unreachable!(),
+        }
+    }
+
+    /// The version of a symbol of the file, where it has one: only objects' symbols have.
+    pub fn symbol_version_debug(&self, id: SymbolId) -> Option<&Name>
+        requires table { (sequenced_file self.now).symbols.len ≡ symbol_count (sequenced_file self.now).file }
+        requires inside { IsInside (sequenced_file self.now).symbols id }
+        ensures { option_map (λ name. name.now) result ≡ version_at (sequenced_file self.now).file (offset_in (sequenced_file self.now).symbols id) }
+    {
+        match self {
+            SequencedInput::Object(object) => object.symbol_version_debug(id),
+            SequencedInput::Prelude(_)
+            | SequencedInput::LinkerScript(_)
+            | SequencedInput::StubLibrary(_)
+            | SequencedInput::SyntheticSymbols(_) => None,
+        }
+    }
+
+    /// It is linked only where it is asked for: an object that is a member of an archive, or a shared object that is taken as
+    /// needed.
+    pub fn is_optional(&self) -> bool
+        ensures { result ≡ is_optional_file (sequenced_file self.now).file }
+    {
+        match self {
+            SequencedInput::Object(object) => object.is_optional(),
+            SequencedInput::Prelude(_)
+            | SequencedInput::LinkerScript(_)
+            | SequencedInput::StubLibrary(_)
+            | SequencedInput::SyntheticSymbols(_) => false,
+        }
+    }
+
+    /// Its symbols are found at run time: it is a shared object, or the stub of one.
+    pub fn is_dynamic(&self) -> bool
+        ensures { result ≡ is_shared_file (sequenced_file self.now).file }
+    {
+        match self {
+            SequencedInput::Object(object) => object.is_dynamic(),
+            SequencedInput::StubLibrary(_) => true,
+            SequencedInput::Prelude(_)
+            | SequencedInput::LinkerScript(_)
+            | SequencedInput::SyntheticSymbols(_) => false,
+        }
+    }
+
+    /// How strongly a symbol of the file binds: those of the prelude and of linker scripts count as undefined.
+    pub fn input_symbol_strength(&self, id: SymbolId) -> SymbolStrength
+        requires table { (sequenced_file self.now).symbols.len ≡ symbol_count (sequenced_file self.now).file }
+        requires inside { IsInside (sequenced_file self.now).symbols id }
+        ensures { strength_at (sequenced_file self.now).file (offset_in (sequenced_file self.now).symbols id) ≡ Some result }
+    {
+        match self {
+            SequencedInput::Object(object) => object.input_symbol_strength(id),
+            SequencedInput::StubLibrary(stub) => stub.input_symbol_strength(id),
+            SequencedInput::Prelude(_)
+            | SequencedInput::LinkerScript(_)
+            | SequencedInput::SyntheticSymbols(_) => SymbolStrength::Undefined,
+        }
+    }
+
+    /// The id of the section that a symbol of the file stands in: none where it stands in no section, in a shared object, or
+    /// in no object.
+    pub fn input_section_id_for_symbol(&self, id: SymbolId) -> Option<InputSectionId>
+        requires table { (sequenced_file self.now).symbols.len ≡ symbol_count (sequenced_file self.now).file }
+        requires inside { IsInside (sequenced_file self.now).symbols id }
+        ensures { result ≡ section_at (sequenced_file self.now).file (sequenced_file self.now).sections (offset_in (sequenced_file self.now).symbols id) }
+    {
+        match self {
+            SequencedInput::Object(object) => object.input_section_id_for_symbol(id),
+            SequencedInput::Prelude(_)
+            | SequencedInput::LinkerScript(_)
+            | SequencedInput::StubLibrary(_)
+            | SequencedInput::SyntheticSymbols(_) => None,
+        }
+    }
+}
+
+impl<P: Platform> fmt::Display for SequencedInput<'_, P> {
+    ghost use Rattle.std.specs.Prelude.{Some};
+    ghost use Rattle.link_groups.specs.GroupText.{file_text};
+    ghost use Rattle.link_groups.specs.SequencedInputs.{sequenced_file};
+
+    ghost output = { λ i. Some (file_text (sequenced_file i).file) };
+
+    fn fmt<W: fmt::Write>(&self, f: &mut fmt::Formatter<W>) -> fmt::Result {
+        match self {
+            SequencedInput::Prelude(_) => f.write_str("<prelude>"),
+            SequencedInput::Object(object) => object.parsed.input().fmt(f),
+            SequencedInput::LinkerScript(script) => script.parsed.input.fmt(f),
+            SequencedInput::StubLibrary(stub) => stub.input.fmt(f),
+            SequencedInput::SyntheticSymbols(_) => f.write_str("<epilogue>"),
+        }
+    }
+}

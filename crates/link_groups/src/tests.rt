@@ -1,0 +1,231 @@
+// Tests of the prelude, of groups, and of how files are shown.
+use crate::{Group, GroupsError, SyntheticSymbols, create_groups};
+use link_ids::{FileId, Name, Seq, SymbolIdRange, Visibility};
+use link_input::{
+    InputObject, Inputs, InternalSymDefInfo, InternalSymbolsBuilder, MachLike, Modifiers,
+    ObjectTable, Options, ParsedInputObject, Place, Platform, ProcessedLinkerScript, Redirect,
+    RedirectKind, StubLibrary, SymbolBinding, SymbolEntry, SymbolKind, SymbolLoc, SymbolPlacement,
+    TooManyKind,
+};
+use std::alloc::Global;
+use std::test::Fail;
+
+// An object with so many symbols and sections.
+fn object(
+    alloc: Global,
+    name: &[u8],
+    symbols: usize,
+    sections: u32,
+) -> Result<ParsedInputObject<MachLike>, Fail> {
+    let mut entries = Seq::new(alloc);
+    for _ in 0..symbols {
+        entries.push(SymbolEntry {
+            name: Name::from_slice(alloc, b"foo")?,
+            version: None,
+            is_default: true,
+            binding: SymbolBinding::Global,
+            visibility: Visibility::Default,
+            kind: SymbolKind::Plain,
+            size: 0,
+            place: Place::Absolute,
+        })?;
+    }
+    let table = ObjectTable {
+        is_dynamic: false,
+        lib_name: Name::from_slice(alloc, b"")?,
+        sections,
+        symbols: entries,
+        groups: Seq::new(alloc),
+    };
+    let modifiers = Modifiers {
+        archive: false,
+        whole_archive: false,
+        as_needed: false,
+    };
+    Ok(ParsedInputObject::new(
+        Name::from_slice(alloc, name)?,
+        InputObject::new(alloc, table)?,
+        modifiers,
+    ))
+}
+
+// A linker script with one symbol.
+fn script(alloc: Global) -> Result<ProcessedLinkerScript, Fail> {
+    let mut builder = InternalSymbolsBuilder::new(alloc);
+    builder
+        .section_end(3, Name::from_slice(alloc, b"edata")?)?
+        .hide();
+    Ok(ProcessedLinkerScript {
+        input: Name::from_slice(alloc, b"x.ld")?,
+        entry: None,
+        version: None,
+        symbol_defs: builder.into_definitions(),
+    })
+}
+
+// A stub library with a strong symbol and a weak one.
+fn stub(alloc: Global) -> Result<StubLibrary, Fail> {
+    let mut strong = Seq::new(alloc);
+    strong.push(Name::from_slice(alloc, b"open")?)?;
+    let mut weak = Seq::new(alloc);
+    weak.push(Name::from_slice(alloc, b"close")?)?;
+    Ok(StubLibrary {
+        input: Name::from_slice(alloc, b"libS.tbd")?,
+        strong,
+        weak,
+    })
+}
+
+// Inputs of these objects alone.
+fn inputs_of(alloc: Global, objects: Vec<ParsedInputObject<MachLike>>) -> Inputs<MachLike> {
+    Inputs {
+        objects: Seq::from_vec(objects),
+        scripts: Seq::new(alloc),
+        stubs: Seq::new(alloc),
+    }
+}
+
+// What groups show, a line each.
+fn texts<P: Platform>(alloc: Global, groups: &[Group<P>]) -> Result<String, Fail> {
+    let mut text = String::new(alloc);
+    for group in groups {
+        text.push_str(format!(in alloc; "{group};")?.as_str())?;
+    }
+    Ok(text)
+}
+
+// What the files of groups show, and their ids.
+fn file_texts<P: Platform>(alloc: Global, groups: &[Group<P>]) -> Result<String, Fail> {
+    let mut text = String::new(alloc);
+    for group in groups {
+        for place in 0..group.num_files() {
+            let file = group.file(place);
+            text.push_str(format!(in alloc; "{file};")?.as_str())?;
+        }
+    }
+    Ok(text)
+}
+
+#[test]
+fn symbols_end_a_group_for_many_workers(rt: HostRuntime) -> Result<(), Fail> {
+    let alloc = rt.alloc();
+    for (workers, want) in [
+        (1, "<prelude>;num_objects: 3 num_symbols: 8;"),
+        (
+            2,
+            "<prelude>;num_objects: 1 num_symbols: 3;num_objects: 1 num_symbols: 1;num_objects: 1 num_symbols: 4;",
+        ),
+    ] {
+        let mut objects = Vec::new(alloc);
+        for symbols in [3, 1, 4] {
+            objects.push(object(alloc, b"a.o", symbols, 2)?)?;
+        }
+        let options = Options::new(alloc);
+        let groups = create_groups(alloc, &options, inputs_of(alloc, objects), workers)?;
+        assert_eq!(rt; texts(alloc, groups.as_slice())?.as_str(), want);
+    }
+    Ok(())
+}
+
+#[test]
+fn a_group_has_at_most_256_files(rt: HostRuntime) -> Result<(), Fail> {
+    let alloc = rt.alloc();
+    for (count, want) in [(0, 1), (1, 2), (256, 2), (257, 3)] {
+        for workers in [1, 2, 256] {
+            let mut objects = Vec::new(alloc);
+            for _ in 0..count {
+                objects.push(object(alloc, b"a.o", 0, 0)?)?;
+            }
+            let options = Options::new(alloc);
+            let groups = create_groups(alloc, &options, inputs_of(alloc, objects), workers)?;
+            assert_eq!(rt; groups.len(), want);
+        }
+    }
+    Ok(())
+}
+
+#[test]
+fn groups_and_files_are_shown(rt: HostRuntime) -> Result<(), Fail> {
+    let alloc = rt.alloc();
+    let mut objects = Vec::new(alloc);
+    objects.push(object(alloc, b"a.o", 2, 0)?)?;
+    let mut inputs = inputs_of(alloc, objects);
+    inputs.scripts.push(script(alloc)?)?;
+    inputs.stubs.push(stub(alloc)?)?;
+    let mut options = Options::new(alloc);
+    options
+        .force_undefined
+        .push(Name::from_slice(alloc, b"main")?)?;
+    let mut targets = Seq::new(alloc);
+    targets.push(Name::from_slice(alloc, b"open")?)?;
+    let redirect = Redirect {
+        kind: RedirectKind::DefSym,
+        targets,
+        loc: SymbolLoc::None,
+    };
+    options.defsym.push(InternalSymDefInfo::new(
+        SymbolPlacement::Redirect(redirect),
+        Name::from_slice(alloc, b"opened")?,
+    ))?;
+    let mut groups = create_groups(alloc, &options, inputs, 1)?;
+    groups.push(Group::SyntheticSymbols(SyntheticSymbols {
+        file_id: FileId::new(4, 0),
+        symbol_id_range: SymbolIdRange::empty(),
+    }))?;
+    assert_eq!(rt;
+        texts(alloc, groups.as_slice())?.as_str(),
+        "<prelude>;num_objects: 1 num_symbols: 2;1 linker script(s);1 Mach-O stub library(s);<epilogue>;"
+    );
+    assert_eq!(rt;
+        file_texts(alloc, groups.as_slice())?.as_str(),
+        "<prelude>;a.o;x.ld;libS.tbd;<epilogue>;"
+    );
+    Ok(())
+}
+
+#[test]
+fn linker_scripts_past_256_are_refused(rt: HostRuntime) -> Result<(), Fail> {
+    let alloc = rt.alloc();
+    let mut inputs = inputs_of(alloc, Vec::new(alloc));
+    for _ in 0..257 {
+        inputs.scripts.push(script(alloc)?)?;
+    }
+    let options = Options::new(alloc);
+    let refusal = create_groups(alloc, &options, inputs, 1).err();
+    assert_eq!(rt;
+        refusal,
+        Some(GroupsError::TooMany {
+            kind: TooManyKind::LinkerScripts,
+            count: 257,
+        })
+    );
+    Ok(())
+}
+
+#[test]
+fn definitions_are_built_one_by_one(rt: HostRuntime) -> Result<(), Fail> {
+    let alloc = rt.alloc();
+    let mut builder = InternalSymbolsBuilder::new(alloc);
+    builder.section_start(1, Name::from_slice(alloc, b"start")?)?;
+    builder.section_end(1, Name::from_slice(alloc, b"end")?)?;
+    builder
+        .section_group_end(1, Name::from_slice(alloc, b"group_end")?)?
+        .hide();
+    builder.platform_specific(Name::from_slice(alloc, b"base")?)?;
+    let undefined = InternalSymDefInfo::new(
+        SymbolPlacement::LoadBaseAddress,
+        Name::from_slice(alloc, b"load")?,
+    );
+    builder.add_symbol(undefined)?.hide();
+    let mut text = String::new(alloc);
+    for definition in builder.definitions() {
+        let name = &definition.name;
+        let hidden = definition.hidden;
+        text.push_str(format!(in alloc; "{name} {hidden};")?.as_str())?;
+    }
+    assert_eq!(rt;
+        text.as_str(),
+        "start false;end false;group_end true;base false;load true;"
+    );
+    Ok(())
+}

@@ -1,0 +1,10 @@
+-- Objects with the names of their files.
+use Rattle.link_input.specs.declared.object.ObjectTable.{ObjectTable}
+use Rattle.link_input.specs.declared.parsed_object.Modifiers.{Modifiers}
+use Rattle.std.specs.Prelude.{ℕ, List}
+
+-- an object, whatever its platform: the name of its file, its table, and how it was named on the command line
+pub record ObjectFile : Type 0 where
+  pub input : List ℕ
+  pub object : ObjectTable
+  pub modifiers : Modifiers

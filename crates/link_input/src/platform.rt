@@ -1,0 +1,99 @@
+// What differs from platform to platform.
+ghost use Rattle.std.specs.Prelude.{◌≡◌, Bool, true, false, Option};
+ghost use Rattle.link_input.specs.declared.symbol_entry.SymbolEntry.{SymbolEntry};
+ghost use Rattle.link_input.specs.declared.options.OutputKind.{OutputKind};
+ghost use Rattle.link_input.specs.Interposition.{keeps_place};
+
+use crate::options::OutputKind;
+use crate::symbol_entry::SymbolEntry;
+use link_ids::Visibility;
+
+/// A platform: its constants, and rules that are functions of their arguments. Mirrors Wild's `Platform`.
+pub trait Platform: Sized + Drop {
+    /// Entry 0 of a symbol table stands for no symbol (ELF gABI, "Symbol Table", index 0).
+    const HAS_NULL_SYMBOL_ENTRY: bool;
+
+    /// Weak definitions are taken before tentative ones.
+    const WEAK_SYMBOLS_OVERRIDE_COMMON: bool;
+
+    /// An export list keeps back the symbols that it lacks, also where they would be exported without one.
+    const EXPORT_LIST_RESTRICTS_DEFAULT_EXPORTS: bool;
+
+    /// The constants, as contracts see them.
+    ghost HAS_NULL_SYMBOL_ENTRY: { Bool };
+
+    ghost WEAK_SYMBOLS_OVERRIDE_COMMON: { Bool };
+
+    ghost EXPORT_LIST_RESTRICTS_DEFAULT_EXPORTS: { Bool };
+
+    /// The rule of `non_interposable`.
+    ghost is_non_interposable: { SymbolEntry → OutputKind → Option Bool → Bool };
+
+    /// No other file may take the place of the symbol at run time. `listed` says whether the export list has its name;
+    /// it is `None` exactly where no export list is given and no export name is forced.
+    fn non_interposable(symbol: &SymbolEntry, output: OutputKind, listed: Option<bool>) -> bool
+        ensures { result ≡ is_non_interposable symbol.now output listed };
+}
+
+/// Platforms whose objects are like ELF's.
+#[derive(Clone, Copy, Debug)]
+pub struct ElfLike;
+
+/// Platforms whose objects are like Mach-O's.
+#[derive(Clone, Copy, Debug)]
+pub struct MachLike;
+
+impl Platform for ElfLike {
+    const HAS_NULL_SYMBOL_ENTRY: bool = true;
+
+    const WEAK_SYMBOLS_OVERRIDE_COMMON: bool = false;
+
+    const EXPORT_LIST_RESTRICTS_DEFAULT_EXPORTS: bool = false;
+
+    ghost HAS_NULL_SYMBOL_ENTRY = { true };
+
+    ghost WEAK_SYMBOLS_OVERRIDE_COMMON = { false };
+
+    ghost EXPORT_LIST_RESTRICTS_DEFAULT_EXPORTS = { false };
+
+    ghost is_non_interposable = { keeps_place false };
+
+    fn non_interposable(symbol: &SymbolEntry, output: OutputKind, listed: Option<bool>) -> bool {
+        keeps_place(false, symbol, output, listed)
+    }
+}
+
+impl Platform for MachLike {
+    const HAS_NULL_SYMBOL_ENTRY: bool = false;
+
+    const WEAK_SYMBOLS_OVERRIDE_COMMON: bool = true;
+
+    const EXPORT_LIST_RESTRICTS_DEFAULT_EXPORTS: bool = true;
+
+    ghost HAS_NULL_SYMBOL_ENTRY = { false };
+
+    ghost WEAK_SYMBOLS_OVERRIDE_COMMON = { true };
+
+    ghost EXPORT_LIST_RESTRICTS_DEFAULT_EXPORTS = { true };
+
+    ghost is_non_interposable = { keeps_place true };
+
+    fn non_interposable(symbol: &SymbolEntry, output: OutputKind, listed: Option<bool>) -> bool {
+        keeps_place(true, symbol, output, listed)
+    }
+}
+
+// The rule of both platforms, of which one has lists that restrict.
+fn keeps_place(
+    lists_restrict: bool,
+    symbol: &SymbolEntry,
+    output: OutputKind,
+    listed: Option<bool>,
+) -> bool
+    ensures { result ≡ keeps_place lists_restrict symbol.now output listed }
+{
+    symbol.is_local()
+        || symbol.visibility != Visibility::Default
+        || (!symbol.is_undefined()
+            && (!output.is_shared_object() || (lists_restrict && listed == Some(false))))
+}

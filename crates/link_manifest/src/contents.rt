@@ -1,0 +1,27 @@
+// What a manifest says, before any table of it is checked; no platform stands in its type.
+use link_ids::{Name, Seq};
+use link_input::{Modifiers, ObjectTable, Options};
+use std::marker::Model;
+
+/// An object whose table is not checked. A contract sees the name of its file, the table and the modifiers.
+#[derive(Drop)]
+pub(crate) struct UncheckedObject {
+    pub(crate) input: Name,
+    pub(crate) table: ObjectTable,
+    pub(crate) modifiers: Modifiers,
+}
+
+impl Model for UncheckedObject {
+    ghost use Rattle.link_input.specs.ObjectFile.{ObjectFile};
+
+    ghost Value = { ObjectFile };
+
+    ghost view = { λ o. record { input = o.input; object = o.table; modifiers = o.modifiers } };
+}
+
+/// What the root says.
+#[derive(Drop)]
+pub(crate) struct Contents {
+    pub(crate) options: Options,
+    pub(crate) objects: Seq<UncheckedObject>,
+}

@@ -1,0 +1,172 @@
+// The kinds of value of a manifest that hold no further keys.
+ghost use Rattle.std.specs.Prelude.{◌≡◌, option_map};
+ghost use Rattle.serde_json.specs.Find.{as_str};
+ghost use Rattle.serde_json.specs.View.{view, members_view};
+ghost use Rattle.link_manifest.specs.declared.fault.Kind.TheVariants as kind;
+ghost use Rattle.link_manifest.specs.declared.fault.Problem.TheVariants.{Expected};
+ghost use Rattle.link_manifest.specs.Reading.{read_or, Reads};
+ghost use Rattle.link_manifest.specs.Values.{text_read, hex_text, hex_bytes, bytes_read, bool_read, number_of, number_read, group_size_of, group_size_read, place_of, place_read};
+
+use crate::fault::{Kind, ManifestError, Problem};
+use crate::path::fault_here;
+use crate::reading::Readable;
+use hex::FromHexError;
+use link_ids::Name;
+use link_input::Place;
+use serde_json::{Map, Value};
+use std::alloc::Global;
+
+/// A JSON text.
+pub(crate) struct Text;
+
+impl Readable for Text {
+    type Read = Name;
+
+    ghost read = { text_read };
+
+    fn read(alloc: Global, value: &Value) -> Result<Name, ManifestError> {
+        match value.as_str() {
+            Some(text) => Ok(Name::from_slice(alloc, text.as_bytes())?),
+            None => Err(fault_here(alloc, Problem::Expected(Kind::Text))),
+        }
+    }
+}
+
+/// Bytes.
+pub(crate) struct Bytes;
+
+/// The text of the one key of an object, where that key is `hex`.
+fn hex_text(members: &Map<String, Value>) -> Option<&str>
+    ensures { option_map (λ t. t.now) result ≡ hex_text (members_view members.now.entries) }
+{
+    let mut entries = members.iter();
+    let (key, value) = entries.next()?;
+    if entries.next().is_some() || key.as_str() != "hex" {
+        return None;
+    }
+    value.as_str()
+}
+
+/// The bytes that hexadecimal digits spell.
+fn hex_bytes(alloc: Global, digits: &str) -> Result<Name, ManifestError>
+    ensures { Reads result (read_or (Expected kind.Bytes) (hex_bytes digits.now)) }
+{
+    match hex::decode(alloc, digits) {
+        Ok(bytes) => Ok(Name::new(bytes)),
+        Err(FromHexError::OutOfMemory) => Err(ManifestError::Memory),
+        Err(_) => Err(fault_here(alloc, Problem::Expected(Kind::Bytes))),
+    }
+}
+
+impl Readable for Bytes {
+    type Read = Name;
+
+    ghost read = { bytes_read };
+
+    fn read(alloc: Global, value: &Value) -> Result<Name, ManifestError> {
+        if let Some(text) = value.as_str() {
+            return Ok(Name::from_slice(alloc, text.as_bytes())?);
+        }
+        match value.as_object().and_then(hex_text) {
+            Some(digits) => hex_bytes(alloc, digits),
+            None => Err(fault_here(alloc, Problem::Expected(Kind::Bytes))),
+        }
+    }
+}
+
+/// `true` or `false`.
+pub(crate) struct Flag;
+
+impl Readable for Flag {
+    type Read = bool;
+
+    ghost read = { bool_read };
+
+    fn read(alloc: Global, value: &Value) -> Result<bool, ManifestError> {
+        match value.as_bool() {
+            Some(flag) => Ok(flag),
+            None => Err(fault_here(alloc, Problem::Expected(Kind::Bool))),
+        }
+    }
+}
+
+/// A whole number.
+pub(crate) struct Number;
+
+/// A whole number without fraction or exponent, below 2^32.
+fn number_of(value: &Value) -> Option<u32>
+    ensures { result ≡ number_of (view value.now) }
+{
+    let number = value.as_u64()?;
+    if number > u32::MAX as u64 {
+        return None;
+    }
+    Some(number as u32)
+}
+
+impl Readable for Number {
+    type Read = u32;
+
+    ghost read = { number_read };
+
+    fn read(alloc: Global, value: &Value) -> Result<u32, ManifestError> {
+        match number_of(value) {
+            Some(number) => Ok(number),
+            None => Err(fault_here(alloc, Problem::Expected(Kind::Number))),
+        }
+    }
+}
+
+/// How many files may be one group.
+pub(crate) struct GroupSize;
+
+/// A number from 1 to 256.
+fn group_size_of(value: &Value) -> Option<u32>
+    ensures { result ≡ group_size_of (view value.now) }
+{
+    let size = number_of(value)?;
+    if size < 1 || size > 256 {
+        return None;
+    }
+    Some(size)
+}
+
+impl Readable for GroupSize {
+    type Read = u32;
+
+    ghost read = { group_size_read };
+
+    fn read(alloc: Global, value: &Value) -> Result<u32, ManifestError> {
+        match group_size_of(value) {
+            Some(size) => Ok(size),
+            None => Err(fault_here(alloc, Problem::Expected(Kind::Number))),
+        }
+    }
+}
+
+/// Where a symbol stands.
+pub(crate) struct SymbolPlace;
+
+/// `undefined`, or the number of a section.
+fn place_of(value: &Value) -> Option<Place>
+    ensures { result ≡ place_of (as_str (view value.now)) (number_of (view value.now)) }
+{
+    match value.as_str() {
+        Some("undefined") => Some(Place::Undefined),
+        Some(_) => None,
+        None => Some(Place::Section(number_of(value)?)),
+    }
+}
+
+impl Readable for SymbolPlace {
+    type Read = Place;
+
+    ghost read = { place_read };
+
+    fn read(alloc: Global, value: &Value) -> Result<Place, ManifestError> {
+        match place_of(value) {
+            Some(place) => Ok(place),
+            None => Err(fault_here(alloc, Problem::Expected(Kind::Place))),
+        }
+    }
+}

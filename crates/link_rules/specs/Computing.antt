@@ -1,0 +1,114 @@
+-- The answer to a world as something that can be computed: the loaded objects by rounds.
+use Rattle.std.specs.Prelude.{ℕ, zero, suc, ◌&&◌, ◌||◌, List, [], ◌∷◌, map, length, Bool, false, true, not, Option, Some, None, if◌then◌else◌, option_and_then}
+use Rattle.std.specs.List.{list_any, list_all, enumerate_from}
+use Rattle.link_closure.specs.Closure.{is_marked}
+use Rattle.link_rules.specs.declared.refusal.LinkError.{LinkError}
+use Rattle.link_rules.specs.Places.{Bytes, each_from, is_number}
+use Rattle.link_rules.specs.World.{World, Symbol, object_in, object_of, is_optional}
+use Rattle.link_rules.specs.Names.{first_definition}
+use Rattle.link_rules.specs.Loading.{is_root, request_of, root_names}
+use Rattle.link_rules.specs.Undefined.{Resolution, resolution_of}
+use Rattle.link_rules.specs.Refusals.{early_refusal, late_refusal}
+use Rattle.link_rules.specs.Answer.{linked_from, IsReport, IsRefusalText}
+use Rattle.link_rules.specs.Report.{report_text, refusal_text}
+
+-- the object of a symbol, and the object that the symbol asks for
+abbrev pub Request : Type 0
+Request = Option ℕ × Option ℕ
+
+-- what a symbol asks for
+abbrev pub request_from : World → Symbol → Request
+request_from w x = (object_in x.source, request_of w x)
+
+-- a marked object asks for g
+abbrev pub asks_for : List Bool → ℕ → Request → Bool
+asks_for marks g (None, to) = false
+asks_for marks g (Some f, to) = is_marked marks f && is_number to g
+
+-- the marks after one round more
+abbrev pub grown : List Request → List Bool → List Bool
+grown requests marks = each_from (λ g b. b || list_any (asks_for marks g) requests) 0 marks
+
+-- the marks after so many rounds
+abbrev pub grown_times : ℕ → List Request → List Bool → List Bool
+grown_times zero requests marks = marks
+grown_times (suc n) requests marks = grown_times n requests (grown requests marks)
+
+-- the objects that are loaded at first
+abbrev pub root_marks : World → List Bool
+root_marks w = each_from (λ f o. is_root w f) 0 w.objects
+
+-- the loaded objects: as many rounds as there are objects
+abbrev pub loaded_by_rounds : World → List Bool
+loaded_by_rounds w = grown_times (length w.objects) (map (request_from w) w.symbols) (root_marks w)
+
+-- marked, if it is an object
+abbrev pub is_marked_if : List Bool → Option ℕ → Bool
+is_marked_if marks None = true
+is_marked_if marks (Some g) = is_marked marks g
+
+-- what a marked object asks for is marked
+abbrev pub is_served : List Bool → Request → Bool
+is_served marks (None, to) = true
+is_served marks (Some f, to) = not (is_marked marks f) || is_marked_if marks to
+
+-- the marks hold the objects that are not optional, those of the root names, and what each marked object asks for
+abbrev pub is_closed : World → List Bool → Bool
+is_closed w marks =
+    list_all (λ o. is_optional o.1 || is_marked marks o.0) (enumerate_from 0 w.objects)
+    && list_all (λ name. is_marked_if marks (option_and_then (object_of w) (first_definition w name))) (root_names w)
+    && list_all (λ x. is_served marks (request_from w x)) w.symbols
+
+-- what a link of a world answers, or that more rounds are needed
+pub data Outcome : Type 0 where
+  report : (text : Bytes) → Outcome
+  refusal : (text : Bytes) → Outcome
+  too_few_rounds : Outcome
+
+-- the rounds were enough
+abbrev pub is_told : Outcome → Bool
+is_told (report text) = true
+is_told (refusal text) = true
+is_told too_few_rounds = false
+
+-- the report of a resolution, or why it is refused
+abbrev pub outcome_from : Resolution → Option LinkError → Outcome
+outcome_from r None = report (report_text (linked_from r))
+outcome_from r (Some error) = refusal (refusal_text error)
+
+-- the outcome of a resolution
+abbrev pub outcome_with : Resolution → Outcome
+outcome_with r = outcome_from r (late_refusal r)
+
+-- the outcome where these objects are loaded, if they are closed
+abbrev pub outcome_loaded : World → List Bool → Outcome
+outcome_loaded w marks = if is_closed w marks then outcome_with (resolution_of w marks) else too_few_rounds
+
+-- the outcome by the first cause that stands before anything is loaded
+abbrev pub outcome_unless : World → Option LinkError → Outcome
+outcome_unless w None = outcome_loaded w (loaded_by_rounds w)
+outcome_unless w (Some error) = refusal (refusal_text error)
+
+-- the text that a link of the world answers
+abbrev pub outcome_of : World → Outcome
+outcome_of w = outcome_unless w (early_refusal w)
+
+-- it is what the definitions say
+abbrev pub IsOutcome : World → Outcome → Type 0
+IsOutcome w (report text) = IsReport w text
+IsOutcome w (refusal text) = IsRefusalText w text
+IsOutcome w too_few_rounds = ⊥
+
+-- a world, and what a link of it answers
+pub record Case : Type 0 where
+  pub world : World
+  pub outcome : Outcome
+
+-- a link of the world answers this
+abbrev pub IsAnswered : Case → Type 0
+IsAnswered c = IsOutcome c.world c.outcome
+
+-- so it is with each of these
+abbrev pub AreAnswered : List Case → Type 0
+AreAnswered [] = Unit {0}
+AreAnswered (c ∷ cs) = IsAnswered c × AreAnswered cs
