@@ -6,9 +6,8 @@ use Rattle.std.proofs.lemmas.List.{length-map}
 use Rattle.link_closure.specs.Closure.{IsLeastClosed}
 use Rattle.link_closure.specs.declared.Edge.{Edge}
 use Rattle.link_closure.specs.Graph.{IsMarked, IsEdge, AreInRange}
-use Rattle.link_input.specs.ObjectFile.{ObjectFile}
+use Rattle.link_input.specs.ObjectFile.{ObjectFile, is_optional}
 use Rattle.link_rules.specs.declared.symbol.Symbol.{Symbol}
-use Rattle.link_rules.specs.World.{is_optional}
 use Rattle.link_rules.specs.Plain.World.{symbols_of}
 use Rattle.link_rules.specs.Plain.Loading.{target, IsRoot, HasEdge, IsLoaded}
 use Rattle.link_core.specs.Edges.{edges_in}

@@ -6,7 +6,8 @@ ghost use Rattle.link_rules.specs.Plain.Loading.{target, IsLoaded};
 ghost use Rattle.link_rules.specs.Plain.Rivals.{loaded_definitions};
 ghost use Rattle.link_rules.specs.Plain.World.{symbols_of};
 ghost use Rattle.link_rules.specs.Plain.Answer.{IsLinked, IsRefused, limit_refusal, early_refusal, answer_of};
-ghost use Rattle.link_rules.specs.Refusals.{limit_cause, object_limit, section_count};
+ghost use Rattle.link_rules.specs.Refusals.{limit_cause, section_count};
+ghost use Rattle.link_input.specs.Limits.{object_limit};
 ghost use Rattle.link_rules.specs.declared.refusal.LinkError.TheVariants.{Memory};
 
 use crate::answer::{canonical_marks, linked_symbols, loaded_objects, undefined_names};

@@ -3,7 +3,7 @@ ghost use Rattle.std.specs.Prelude.{◌≡◌, ◌<◌, ◌^◌, ℕ, List, not,
 ghost use Rattle.link_core.specs.Edges.{edge_from, edges_in};
 ghost use Rattle.link_core.specs.Found.{found};
 ghost use Rattle.link_rules.specs.Plain.World.{symbols_of, is_reference};
-ghost use Rattle.link_rules.specs.World.{is_optional};
+ghost use Rattle.link_input.specs.ObjectFile.{is_optional};
 ghost use Rattle.link_rules.specs.Plain.Lists.{first_definition};
 ghost use Rattle.link_rules.specs.Plain.Loading.{target, IsLoaded};
 

@@ -11,7 +11,7 @@ use Rattle.link_input.specs.declared.world.ProcessedLinkerScript.{ProcessedLinke
 use Rattle.link_input.specs.declared.world.StubLibrary.{StubLibrary}
 use Rattle.link_input.specs.BindingStrength.{binding_strength}
 use Rattle.link_input.specs.Entries.{section_of}
-use Rattle.link_input.specs.ObjectFile.{ObjectFile}
+use Rattle.link_input.specs.ObjectFile.{ObjectFile, is_optional}
 
 -- the symbols of a stub library: the strong ones, and then the weak ones
 abbrev pub stub_symbol : Bool → List ℕ → StubSymbol
@@ -75,10 +75,6 @@ section_at (object o) ids i = option_and_then (section_id ids) (slice_get o.obje
 section_at (linker_script s) ids i = None
 section_at (stub_library input symbols) ids i = None
 section_at synthetic ids i = None
-
--- an object that is linked only where it is asked for
-abbrev pub is_optional : ObjectFile → Bool
-is_optional o = (o.modifiers.archive && not o.modifiers.whole_archive) || (o.object.is_dynamic && o.modifiers.as_needed)
 
 -- a file that is linked only where it is asked for
 abbrev pub is_optional_file : InputFile → Bool

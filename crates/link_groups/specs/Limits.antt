@@ -1,10 +1,11 @@
 -- How many inputs a link may have.
-use Rattle.std.specs.Prelude.{ℕ, ◌+◌, ◌-◌, ◌*◌, ◌^◌, ◌<◌, ◌≤◌, nat_lt, map, length, Option, Some, None, if◌then◌else◌}
+use Rattle.std.specs.Prelude.{ℕ, ◌+◌, ◌*◌, ◌≤◌, nat_lt, map, length, Option, Some, None, if◌then◌else◌}
 use Rattle.std.specs.Option.{option_or}
 use Rattle.link_input.specs.declared.too_many.TooManyKind.{TooManyKind}
 use Rattle.link_input.specs.declared.too_many.TooManyKind.TheVariants.{Objects, LinkerScripts, StubLibraries, Sections, Symbols}
 use Rattle.link_groups.specs.declared.groups_error.GroupsError.{GroupsError}
 use Rattle.link_groups.specs.declared.groups_error.GroupsError.TheVariants.{TooMany}
+use Rattle.link_input.specs.Limits.{object_limit, file_limit, id_limit}
 use Rattle.link_input.specs.declared.options.Options.{Options}
 use Rattle.link_input.specs.declared.world.Inputs.{Inputs}
 use Rattle.link_groups.specs.InputFiles.{object, symbol_count}
@@ -26,16 +27,16 @@ excess kind limit count = if nat_lt limit count then Some (TooMany kind count) e
 -- the first count past its limit
 abbrev pub first_excess : {P : Type 0} → Options → Inputs P → Option GroupsError
 first_excess options inputs =
-    option_or (excess Objects (2 ^ 24 - 4) (length inputs.objects))
-    (option_or (excess LinkerScripts 256 (length inputs.scripts))
-    (option_or (excess StubLibraries 256 (length inputs.stubs))
-    (option_or (excess Sections (2 ^ 32 - 1) (section_total inputs))
-    (excess Symbols (2 ^ 32 - 1) (symbol_total options inputs)))))
+    option_or (excess Objects object_limit (length inputs.objects))
+    (option_or (excess LinkerScripts file_limit (length inputs.scripts))
+    (option_or (excess StubLibraries file_limit (length inputs.stubs))
+    (option_or (excess Sections id_limit (section_total inputs))
+    (excess Symbols id_limit (symbol_total options inputs)))))
 
 -- no count is past its limit
 pub record AreWithinLimits {P : Type 0} (options : Options) (inputs : Inputs P) : Type 0 where
-  pub objects : length inputs.objects ≤ 2 ^ 24 - 4
-  pub scripts : length inputs.scripts ≤ 256
-  pub stubs : length inputs.stubs ≤ 256
-  pub sections : section_total inputs < 2 ^ 32
-  pub symbols : symbol_total options inputs < 2 ^ 32
+  pub objects : length inputs.objects ≤ object_limit
+  pub scripts : length inputs.scripts ≤ file_limit
+  pub stubs : length inputs.stubs ≤ file_limit
+  pub sections : section_total inputs ≤ id_limit
+  pub symbols : symbol_total options inputs ≤ id_limit

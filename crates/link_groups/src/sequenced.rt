@@ -3,7 +3,8 @@ ghost use Rattle.std.specs.Prelude.{◌≡◌, ◌<◌, Some, length, option_map
 ghost use Rattle.std.specs.Option.{option_and_then};
 ghost use Rattle.link_ids.specs.Span.{IsInside, offset_in};
 ghost use Rattle.link_input.specs.BindingStrength.{binding_strength};
-ghost use Rattle.link_groups.specs.InputFiles.{is_optional, section_id, stub_strength};
+ghost use Rattle.link_groups.specs.InputFiles.{section_id, stub_strength};
+ghost use Rattle.link_input.specs.ObjectFile.{is_optional};
 
 use link_ids::{
     FileId, InputSectionId, InputSectionIndex, Name, SectionIdRange, Seq, SymbolId, SymbolIdRange,

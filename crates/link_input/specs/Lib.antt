@@ -7,6 +7,7 @@ pub mod RedirectText
 pub mod Segments
 pub mod Interposition
 pub mod ObjectFile
+pub mod Limits
 pub mod Checks
 pub mod TableErrorText
 pub mod TableExamples

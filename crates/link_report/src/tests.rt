@@ -58,11 +58,25 @@ fn linked(
     Ok(answer)
 }
 
-#[test]
-fn the_report_of_an_answer(rt: HostRuntime) -> Result<(), Fail> {
-    let alloc = rt.alloc();
-    // main.o refers to foo of a.o, which refers to bar of b.o; nothing asks for c.o.
-    let archive = linked(
+const ARCHIVE_TEXT: &str = "\
+loaded 0 main.o
+loaded 1 a.o
+loaded 2 b.o
+symbol 0 <unnamed> -> 0 [ABSOLUTE]
+symbol 1 <unnamed> -> 0 [ABSOLUTE | NON_INTERPOSABLE]
+symbol 2 foo -> 4 [ABSOLUTE]
+symbol 3 <unnamed> -> 0 [ABSOLUTE | NON_INTERPOSABLE]
+symbol 4 foo -> 4 [NON_INTERPOSABLE | HAS_NON_IR_REF]
+symbol 5 bar -> 7 [ABSOLUTE]
+symbol 6 <unnamed> -> 0 [ABSOLUTE | NON_INTERPOSABLE]
+symbol 7 bar -> 7 [NON_INTERPOSABLE | HAS_NON_IR_REF]
+symbol 8 <unnamed> -> 0 [ABSOLUTE | NON_INTERPOSABLE]
+symbol 9 baz -> 9 [NON_INTERPOSABLE]
+";
+
+/// main.o refers to foo of a.o, which refers to bar of b.o; nothing asks for c.o.
+fn archive(alloc: Global) -> Result<Linked, AllocError> {
+    linked(
         alloc,
         &[
             (0, b"main.o".as_slice()),
@@ -82,24 +96,18 @@ fn the_report_of_an_answer(rt: HostRuntime) -> Result<(), Fail> {
             (b"baz".as_slice(), 9, NON_INTERPOSABLE),
         ],
         &[],
-    )?;
-    let archive_text = "\
-loaded 0 main.o
-loaded 1 a.o
-loaded 2 b.o
+    )
+}
+
+const EMPTY_TEXT: &str = "\
+loaded 0 e.o
 symbol 0 <unnamed> -> 0 [ABSOLUTE]
 symbol 1 <unnamed> -> 0 [ABSOLUTE | NON_INTERPOSABLE]
-symbol 2 foo -> 4 [ABSOLUTE]
-symbol 3 <unnamed> -> 0 [ABSOLUTE | NON_INTERPOSABLE]
-symbol 4 foo -> 4 [NON_INTERPOSABLE | HAS_NON_IR_REF]
-symbol 5 bar -> 7 [ABSOLUTE]
-symbol 6 <unnamed> -> 0 [ABSOLUTE | NON_INTERPOSABLE]
-symbol 7 bar -> 7 [NON_INTERPOSABLE | HAS_NON_IR_REF]
-symbol 8 <unnamed> -> 0 [ABSOLUTE | NON_INTERPOSABLE]
-symbol 9 baz -> 9 [NON_INTERPOSABLE]
 ";
-    // An object without symbols.
-    let empty = linked(
+
+/// An object without symbols.
+fn empty(alloc: Global) -> Result<Linked, AllocError> {
+    linked(
         alloc,
         &[(0, b"e.o".as_slice())],
         &[
@@ -107,14 +115,19 @@ symbol 9 baz -> 9 [NON_INTERPOSABLE]
             (b"".as_slice(), 0, ABSOLUTE + NON_INTERPOSABLE),
         ],
         &[],
-    )?;
-    let empty_text = "\
-loaded 0 e.o
-symbol 0 <unnamed> -> 0 [ABSOLUTE]
-symbol 1 <unnamed> -> 0 [ABSOLUTE | NON_INTERPOSABLE]
+    )
+}
+
+const ODD_TEXT: &str = "\
+loaded 7 \nloaded 30 \"\u{e9}\"\n.o
+symbol 0 INVALID UTF-8([255, 0]) -> 4294967295 []
+symbol 1 a\nb -> 0 [DOWNGRADE_TO_LOCAL]
+undefined 1 \nundefined 12 INVALID UTF-8([128])
 ";
-    // Names that are empty, no text, or hold a quote, a line feed or a letter of two bytes.
-    let odd = linked(
+
+/// Names that are empty, no text, or hold a quote, a line feed or a letter of two bytes.
+fn odd(alloc: Global) -> Result<Linked, AllocError> {
+    linked(
         alloc,
         &[(7, b"".as_slice()), (30, b"\"\xc3\xa9\"\n.o".as_slice())],
         &[
@@ -122,19 +135,17 @@ symbol 1 <unnamed> -> 0 [ABSOLUTE | NON_INTERPOSABLE]
             (b"a\nb".as_slice(), 0, DOWNGRADE_TO_LOCAL),
         ],
         &[(1, b"".as_slice()), (12, b"\x80".as_slice())],
-    )?;
-    let odd_text = "\
-loaded 7 \nloaded 30 \"\u{e9}\"\n.o
-symbol 0 INVALID UTF-8([255, 0]) -> 4294967295 []
-symbol 1 a\nb -> 0 [DOWNGRADE_TO_LOCAL]
-undefined 1 \nundefined 12 INVALID UTF-8([128])
-";
-    let nothing = linked(alloc, &[], &[], &[])?;
+    )
+}
+
+#[test]
+fn the_report_of_an_answer(rt: HostRuntime) -> Result<(), Fail> {
+    let alloc = rt.alloc();
     for (answer, text) in [
-        (&archive, archive_text),
-        (&empty, empty_text),
-        (&odd, odd_text),
-        (&nothing, ""),
+        (&archive(alloc)?, ARCHIVE_TEXT),
+        (&empty(alloc)?, EMPTY_TEXT),
+        (&odd(alloc)?, ODD_TEXT),
+        (&linked(alloc, &[], &[], &[])?, ""),
     ] {
         assert!(rt;
             report_text(alloc, answer)?.as_slice() == text.as_bytes(),
@@ -177,58 +188,102 @@ missing INVALID UTF-8([255])
     Ok(())
 }
 
+/// The place of the first refusal that is not told by the text beside it.
+fn all_told(alloc: Global, rows: &[(LinkError, &[u8])]) -> Result<Option<usize>, Fail> {
+    for (row, (error, text)) in rows.iter().enumerate() {
+        if refusal_text(alloc, error)?.as_slice() != *text {
+            return Ok(Some(row));
+        }
+    }
+    Ok(None)
+}
+
+fn too_many(kind: TooManyKind, count: u128) -> LinkError {
+    LinkError::TooMany { kind, count }
+}
+
+/// A fault of the text of this origin.
+fn fault(origin: ScriptOrigin, at: usize, kind: ScriptErrorKind) -> LinkError {
+    LinkError::Script {
+        origin,
+        error: ScriptError { at, kind },
+    }
+}
+
 #[test]
-fn the_text_of_a_refusal(rt: HostRuntime) -> Result<(), Fail> {
+fn the_text_of_a_count(rt: HostRuntime) -> Result<(), Fail> {
     let alloc = rt.alloc();
-    let one = Name::from_slice(alloc, b"foo, defined in a.o and b.o")?;
-    let two = Name::from_slice(alloc, b"INVALID UTF-8([255]), defined in a.o and \xff")?;
     let rows = [
         (
-            LinkError::TooMany {
-                kind: TooManyKind::Objects,
-                count: 16_777_213,
-            },
+            too_many(TooManyKind::Objects, 16_777_213),
             b"Too many objects: 16777213".as_slice(),
         ),
         (
-            LinkError::TooMany {
-                kind: TooManyKind::Sections,
-                count: 4_294_967_296,
-            },
+            too_many(TooManyKind::LinkerScripts, 257),
+            b"Too many linker scripts: 257".as_slice(),
+        ),
+        (
+            too_many(TooManyKind::StubLibraries, 257),
+            b"Too many stub libraries: 257".as_slice(),
+        ),
+        (
+            too_many(TooManyKind::Sections, 4_294_967_296),
             b"Too many sections: 4294967296".as_slice(),
         ),
         (
-            LinkError::TooMany {
-                kind: TooManyKind::Symbols,
-                count: 18_446_744_073_709_551_615,
-            },
+            too_many(TooManyKind::Symbols, 18_446_744_073_709_551_615),
             b"Too many symbols: 18446744073709551615".as_slice(),
         ),
         (LinkError::NoInputs, b"no input files".as_slice()),
+        (LinkError::Memory, b"out of memory".as_slice()),
+    ];
+    assert_eq!(rt; all_told(alloc, rows.as_slice())?, None);
+    Ok(())
+}
+
+#[test]
+fn the_text_of_a_script_that_is_none(rt: HostRuntime) -> Result<(), Fail> {
+    let alloc = rt.alloc();
+    let rows = [
         (
-            LinkError::Script {
-                origin: ScriptOrigin::LinkerScript(2),
-                error: ScriptError {
-                    at: 26,
-                    kind: ScriptErrorKind::Syntax,
-                },
-            },
-            b"Failed to parse version script of linker script 2: Syntax error at 26".as_slice(),
+            fault(ScriptOrigin::VersionScript, 0, ScriptErrorKind::Syntax),
+            b"Failed to parse version script: Syntax error at 0".as_slice(),
         ),
         (
-            LinkError::Script {
-                origin: ScriptOrigin::ForcedExport(0),
-                error: ScriptError {
-                    at: 9,
-                    kind: ScriptErrorKind::UnexpectedExtern(Language::Cxx),
-                },
-            },
+            fault(
+                ScriptOrigin::ExportList,
+                3,
+                ScriptErrorKind::InvalidGlobPattern,
+            ),
+            b"Failed to parse symbol export list: Invalid glob pattern at 3".as_slice(),
+        ),
+        (
+            fault(
+                ScriptOrigin::ForcedExport(0),
+                9,
+                ScriptErrorKind::UnexpectedExtern(Language::Cxx),
+            ),
             b"Failed to parse forced export 0: Unexpected extern \"C++\" in parsing at 9".as_slice(),
+        ),
+        (
+            fault(ScriptOrigin::LinkerScript(2), 26, ScriptErrorKind::Syntax),
+            b"Failed to parse version script of linker script 2: Syntax error at 26".as_slice(),
         ),
         (
             LinkError::MultipleVersionScripts(1),
             b"Multiple version scripts provided".as_slice(),
         ),
+    ];
+    assert_eq!(rt; all_told(alloc, rows.as_slice())?, None);
+    Ok(())
+}
+
+#[test]
+fn the_text_of_names_and_sections(rt: HostRuntime) -> Result<(), Fail> {
+    let alloc = rt.alloc();
+    let one = Name::from_slice(alloc, b"foo, defined in a.o and b.o")?;
+    let two = Name::from_slice(alloc, b"INVALID UTF-8([255]), defined in a.o and \xff")?;
+    let rows = [
         (
             LinkError::SectionInTwoGroups {
                 file: Name::from_slice(alloc, b"a.o")?,
@@ -257,13 +312,7 @@ foo, defined in a.o and b.o\nfoo, defined in a.o and b.o"
             LinkError::DuplicateSymbols(Seq::new(alloc)),
             b"Duplicate symbols detected: ".as_slice(),
         ),
-        (LinkError::Memory, b"out of memory".as_slice()),
     ];
-    for (row, (error, text)) in rows.iter().enumerate() {
-        assert!(rt;
-            refusal_text(alloc, error)?.as_slice() == *text,
-            "row {row}"
-        );
-    }
+    assert_eq!(rt; all_told(alloc, rows.as_slice())?, None);
     Ok(())
 }

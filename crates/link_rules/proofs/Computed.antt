@@ -5,10 +5,10 @@ use Rattle.std.specs.Option.{option_map_or}
 use Rattle.std.proofs.lemmas.Bool.{eqb-true}
 use Rattle.std.specs.List.{list_any, list_all, enumerate_from}
 use Rattle.link_closure.specs.Closure.{IsClosed, is_marked}
-use Rattle.link_input.specs.ObjectFile.{ObjectFile}
+use Rattle.link_input.specs.ObjectFile.{ObjectFile, is_optional}
 use Rattle.link_rules.specs.declared.refusal.LinkError.{LinkError}
 use Rattle.link_rules.specs.Places.{each_from, is_number}
-use Rattle.link_rules.specs.World.{World, Symbol, object_in, object_of, is_optional}
+use Rattle.link_rules.specs.World.{World, Symbol, object_in, object_of}
 use Rattle.link_rules.specs.Names.{first_definition}
 use Rattle.link_rules.specs.Loading.{is_root, IsRoot, HasEdge, IsLoaded, request_of, root_names, holds_name}
 use Rattle.link_rules.specs.Undefined.{resolution_of}

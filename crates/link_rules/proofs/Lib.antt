@@ -2,6 +2,7 @@ pub mod SortedOnce
 pub mod OneAnswer
 pub mod Computed
 pub mod Rows
+pub mod ScriptRows
 pub mod WorldOnce
 pub mod KeptPlace
 pub mod Settled

@@ -6,17 +6,18 @@ use Rattle.std.specs.List.{AllByRecursion}
 use Rattle.std.proofs.lemmas.Bool.{eqb-true}
 use Rattle.std.proofs.lemmas.Option.{slice_get-map}
 use Rattle.link_input.specs.Entries.{is_weak}
-use Rattle.link_input.specs.ObjectFile.{ObjectFile}
+use Rattle.link_input.specs.ObjectFile.{ObjectFile, is_optional}
 use Rattle.link_input.specs.declared.too_many.TooManyKind.TheVariants.{Objects, Sections, Symbols}
 use Rattle.link_rules.specs.declared.symbol.Symbol.{Symbol as PlainSymbol}
 use Rattle.link_rules.specs.declared.refusal.LinkError.{LinkError}
 use Rattle.link_rules.specs.declared.refusal.LinkError.TheVariants.{NoInputs}
 use Rattle.link_rules.specs.Places.{Bytes, same_number, is_empty}
 use Rattle.link_rules.specs.Rules.{elf_like}
-use Rattle.link_rules.specs.World.{Given, World, world_of, Source, in_prelude, in_object, in_script, in_stub, Symbol, symbols_of, object_in, object_of, is_optional, is_reference, entry_passes}
+use Rattle.link_rules.specs.World.{Given, World, world_of, Source, in_prelude, in_object, in_script, in_stub, Symbol, symbols_of, object_in, object_of, is_reference, entry_passes}
 use Rattle.link_rules.specs.Targets.{target}
 use Rattle.link_rules.specs.Loading.{is_root, IsRoot, HasEdge, IsLoaded, request_between, request_of}
-use Rattle.link_rules.specs.Refusals.{limit_cause, object_limit, section_count, limit_refusal, early_refusal}
+use Rattle.link_rules.specs.Refusals.{limit_cause, section_count, limit_refusal, early_refusal}
+use Rattle.link_input.specs.Limits.{object_limit, id_limit}
 use Rattle.link_rules.specs.Plain.World as today
 use Rattle.link_rules.specs.Plain.Loading as loading
 use Rattle.link_rules.specs.Plain.Answer as answer
@@ -220,13 +221,13 @@ or-none (Some x) = refl
 -- without custom sections no symbol is added
 limit-with : (objects : List ObjectFile) (many count : ℕ) → many ≡ count
     → option_or (limit_cause Objects object_limit (length objects))
-    (option_or (limit_cause Sections (2 ^ 32 - 1) (section_count objects)) (option_or (limit_cause Symbols (2 ^ 32 - 1) (many + 0)) None))
+    (option_or (limit_cause Sections id_limit (section_count objects)) (option_or (limit_cause Symbols id_limit (many + 0)) None))
     ≡ option_or (limit_cause Objects object_limit (length objects))
-    (option_or (limit_cause Sections (2 ^ 32 - 1) (section_count objects)) (limit_cause Symbols (2 ^ 32 - 1) count))
+    (option_or (limit_cause Sections id_limit (section_count objects)) (limit_cause Symbols id_limit count))
 limit-with objects many count same =
     let counted : many + 0 ≡ count = omega (arith, same) in
-    ap (λ last. option_or (limit_cause Objects object_limit (length objects)) (option_or (limit_cause Sections (2 ^ 32 - 1) (section_count objects)) last))
-    (or-none (limit_cause Symbols (2 ^ 32 - 1) (many + 0)) ∙ ap (λ k. limit_cause Symbols (2 ^ 32 - 1) k) counted)
+    ap (λ last. option_or (limit_cause Objects object_limit (length objects)) (option_or (limit_cause Sections id_limit (section_count objects)) last))
+    (or-none (limit_cause Symbols id_limit (many + 0)) ∙ ap (λ k. limit_cause Symbols id_limit k) counted)
 
 -- more than ids can name, of a plain link as the words of today say it
 limits-same : (demangle : Bytes → Bytes) (given : Given) → IsPlainLink given → limit_refusal (world_of elf_like demangle given) ≡ answer.limit_refusal given.objects

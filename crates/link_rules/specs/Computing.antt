@@ -4,7 +4,8 @@ use Rattle.std.specs.List.{list_any, list_all, enumerate_from}
 use Rattle.link_closure.specs.Closure.{is_marked}
 use Rattle.link_rules.specs.declared.refusal.LinkError.{LinkError}
 use Rattle.link_rules.specs.Places.{Bytes, each_from, is_number}
-use Rattle.link_rules.specs.World.{World, Symbol, object_in, object_of, is_optional}
+use Rattle.link_rules.specs.World.{World, Symbol, object_in, object_of}
+use Rattle.link_input.specs.ObjectFile.{is_optional}
 use Rattle.link_rules.specs.Names.{first_definition}
 use Rattle.link_rules.specs.Loading.{is_root, request_of, root_names}
 use Rattle.link_rules.specs.Undefined.{Resolution, resolution_of}

@@ -23,6 +23,7 @@ pub mod Answer
 pub mod Building
 pub mod Computing
 pub mod Rows
+pub mod ScriptRows
 pub mod Worlds
 pub mod Further
 pub mod PlainWorld

@@ -9,7 +9,8 @@ use Rattle.link_input.specs.declared.internal_symbols.InternalSymDefInfo.{Intern
 use Rattle.link_input.specs.Entries.{is_weak}
 use Rattle.link_input.specs.PreludeSymbols.{prelude_symbols}
 use Rattle.link_rules.specs.Places.{Bytes, last_of, is_number, same_number}
-use Rattle.link_rules.specs.World.{World, Symbol, Source, object_in, object_of, is_shared, is_shared_at, is_optional, is_reference, holds_at, entry_passes}
+use Rattle.link_rules.specs.World.{World, Symbol, Source, object_in, object_of, is_shared, is_shared_at, is_reference, holds_at, entry_passes}
+use Rattle.link_input.specs.ObjectFile.{is_optional}
 use Rattle.link_rules.specs.Names.{first_definition}
 use Rattle.link_rules.specs.Targets.{target}
 

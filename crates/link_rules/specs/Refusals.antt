@@ -1,10 +1,11 @@
 -- Why a link is refused: the first cause, in one order.
-use Rattle.std.specs.Prelude.{ℕ, ◌+◌, ◌-◌, ◌*◌, ◌^◌, ◌&&◌, ◌||◌, List, [], ◌∷◌, ◌++◌, map, filter_map, length, Bool, Option, Some, None, is_some, if◌then◌else◌, nat_lt, slice_get, option_map, option_and_then, codes}
+use Rattle.std.specs.Prelude.{ℕ, ◌+◌, ◌*◌, ◌&&◌, ◌||◌, List, [], ◌∷◌, ◌++◌, map, filter_map, length, Bool, Option, Some, None, is_some, if◌then◌else◌, nat_lt, slice_get, option_map, option_and_then, codes}
 use Rattle.std.specs.Option.{option_map_or, option_or}
 use Rattle.std.specs.List.{enumerate_from, flat_map, sum_by}
 use Rattle.link_ids.specs.NameText.{name_text}
 use Rattle.link_input.specs.declared.world.ProcessedLinkerScript.{ProcessedLinkerScript}
 use Rattle.link_input.specs.ObjectFile.{ObjectFile}
+use Rattle.link_input.specs.Limits.{object_limit, file_limit, id_limit}
 use Rattle.link_script.specs.declared.fault.ScriptError.{ScriptError}
 use Rattle.link_script.specs.ForcedName.{forced_name}
 use Rattle.link_script.specs.Script.{script_at}
@@ -65,10 +66,6 @@ text_refusal w = first_cause
 abbrev pub limit_cause : TooManyKind → ℕ → ℕ → Option LinkError
 limit_cause kind limit count = if nat_lt limit count then Some (TooMany kind count) else None
 
--- how many objects ids can name: the groups of the other files need four
-abbrev pub object_limit : ℕ
-object_limit = 2 ^ 24 - 4
-
 -- sections are counted of regular objects alone
 abbrev pub section_count : List ObjectFile → ℕ
 section_count objects = sum_by (λ o. if o.object.is_dynamic then 0 else o.object.sections) objects
@@ -81,10 +78,10 @@ symbol_count w = length w.symbols + 2 * length w.options.custom_sections
 abbrev pub limit_refusal : World → Option LinkError
 limit_refusal w = first_cause
     (limit_cause Objects object_limit (length w.objects)
-    ∷ limit_cause LinkerScripts 256 (length w.scripts)
-    ∷ limit_cause StubLibraries 256 (length w.stubs)
-    ∷ limit_cause Sections (2 ^ 32 - 1) (section_count w.objects)
-    ∷ limit_cause Symbols (2 ^ 32 - 1) (symbol_count w) ∷ [])
+    ∷ limit_cause LinkerScripts file_limit (length w.scripts)
+    ∷ limit_cause StubLibraries file_limit (length w.stubs)
+    ∷ limit_cause Sections id_limit (section_count w.objects)
+    ∷ limit_cause Symbols id_limit (symbol_count w) ∷ [])
 
 -- no object, be it regular or shared, is a cause
 abbrev pub empty_refusal : World → Option LinkError

@@ -1,15 +1,14 @@
--- Worked examples: small worlds, and what a link of each answers.
+-- Worked examples: small worlds of objects alone, and what a link of each answers.
 use Rattle.std.specs.Prelude.{List, [], ◌∷◌, true, false, Some, None, codes}
 use Rattle.link_ids.specs.declared.visibility.Visibility.TheVariants.{Default, Protected, Hidden}
 use Rattle.link_input.specs.declared.symbol_entry.Place.TheVariants.{Undefined, Absolute, Common, Section}
 use Rattle.link_input.specs.declared.symbol_entry.SymbolBinding.TheVariants.{Local, Global, Weak}
-use Rattle.link_input.specs.declared.symbol_entry.SymbolKind.TheVariants.{Plain, Tls}
+use Rattle.link_input.specs.declared.symbol_entry.SymbolKind.TheVariants.{Plain}
 use Rattle.link_input.specs.declared.options.OutputKind.TheVariants.{SharedObject, Partial}
-use Rattle.link_input.specs.declared.internal_symbols.RedirectKind.TheVariants.{Script}
 use Rattle.link_input.specs.Defaults.{default_options}
 use Rattle.link_rules.specs.Rules.{elf_like, mach_like}
 use Rattle.link_rules.specs.World.{world_of}
-use Rattle.link_rules.specs.Building.{undemangled, entry, null_entry, refers, defines, group, file, object, member, shared, redirect, linker_script, stub, texts, of_objects}
+use Rattle.link_rules.specs.Building.{undemangled, entry, null_entry, refers, defines, group, file, object, member, shared, of_objects}
 use Rattle.link_rules.specs.Computing.{Case, report, refusal}
 
 -- a chain of references loads two members, and nothing asks for the third
@@ -22,20 +21,6 @@ members_that_are_asked_for = record {
       member (codes "b.o") (defines (codes "bar") 1 ∷ []) ∷
       member (codes "c.o") (defines (codes "baz") 1 ∷ []) ∷ []));
   outcome = report (codes "loaded 0 main.o\nloaded 1 a.o\nloaded 2 b.o\nsymbol 0 <unnamed> -> 0 [ABSOLUTE]\nsymbol 1 <unnamed> -> 0 [ABSOLUTE | NON_INTERPOSABLE]\nsymbol 2 foo -> 4 [ABSOLUTE]\nsymbol 3 <unnamed> -> 0 [ABSOLUTE | NON_INTERPOSABLE]\nsymbol 4 foo -> 4 [NON_INTERPOSABLE | HAS_NON_IR_REF]\nsymbol 5 bar -> 7 [ABSOLUTE]\nsymbol 6 <unnamed> -> 0 [ABSOLUTE | NON_INTERPOSABLE]\nsymbol 7 bar -> 7 [NON_INTERPOSABLE | HAS_NON_IR_REF]\nsymbol 8 <unnamed> -> 0 [ABSOLUTE | NON_INTERPOSABLE]\nsymbol 9 baz -> 9 [NON_INTERPOSABLE]\n");
-}
-
--- a stub library alone is no input
-abbrev pub no_objects : Case
-no_objects = record {
-  world = world_of elf_like undemangled
-      (record {
-        objects = [];
-        scripts = [];
-        stubs = (stub (codes "libS.tbd") ((codes "foo") ∷ []) [] ∷ []);
-        options = default_options;
-        texts = texts None None;
-      });
-  outcome = refusal (codes "no input files");
 }
 
 -- a weak reference asks for no member, so it stays undefined
@@ -160,27 +145,6 @@ a_reference_to_a_version = record {
   outcome = report (codes "loaded 0 main.o\nloaded 1 b.o\nsymbol 0 <unnamed> -> 0 [ABSOLUTE]\nsymbol 1 <unnamed> -> 0 [ABSOLUTE | NON_INTERPOSABLE]\nsymbol 2 foo -> 5 [ABSOLUTE]\nsymbol 3 <unnamed> -> 0 [ABSOLUTE | NON_INTERPOSABLE]\nsymbol 4 foo -> 4 [NON_INTERPOSABLE]\nsymbol 5 foo -> 5 [NON_INTERPOSABLE | HAS_NON_IR_REF]\n");
 }
 
--- a hidden reference to a wrapped name asks for the wrapper that is not shared
-abbrev pub a_wrapped_name_finds_its_wrapper : Case
-a_wrapped_name_finds_its_wrapper = record {
-  world = world_of elf_like undemangled
-      (of_objects (record default_options { wrap = ((codes "foo") ∷ []) }) (
-      shared (codes "l.so") (defines (codes "__wrap_foo") 1 ∷ []) ∷
-      member (codes "w.o") (defines (codes "__wrap_foo") 1 ∷ []) ∷
-      object (codes "main.o") (entry (codes "foo") None true Global Hidden Plain 0 Undefined ∷ []) ∷ []));
-  outcome = report (codes "loaded 0 l.so\nloaded 1 w.o\nloaded 2 main.o\nsymbol 0 <unnamed> -> 0 [ABSOLUTE]\nsymbol 1 <unnamed> -> 0 [ABSOLUTE | DYNAMIC]\nsymbol 2 __wrap_foo -> 4 [DYNAMIC]\nsymbol 3 <unnamed> -> 0 [ABSOLUTE | NON_INTERPOSABLE]\nsymbol 4 __wrap_foo -> 4 [NON_INTERPOSABLE | DOWNGRADE_TO_LOCAL | HAS_NON_IR_REF]\nsymbol 5 <unnamed> -> 0 [ABSOLUTE | NON_INTERPOSABLE]\nsymbol 6 foo -> 4 [ABSOLUTE | NON_INTERPOSABLE]\n");
-}
-
--- a name that marks the start of a custom section gets a new symbol
-abbrev pub a_start_symbol_is_made : Case
-a_start_symbol_is_made = record {
-  world = world_of elf_like undemangled
-      (of_objects (record default_options { custom_sections = ((codes "data") ∷ []) }) (
-      object (codes "a.o") (refers (codes "__start_data") ∷ []) ∷
-      object (codes "b.o") (refers (codes "__start_data") ∷ []) ∷ []));
-  outcome = report (codes "loaded 0 a.o\nloaded 1 b.o\nsymbol 0 <unnamed> -> 0 [ABSOLUTE]\nsymbol 1 <unnamed> -> 0 [ABSOLUTE | NON_INTERPOSABLE]\nsymbol 2 __start_data -> 5 [ABSOLUTE]\nsymbol 3 <unnamed> -> 0 [ABSOLUTE | NON_INTERPOSABLE]\nsymbol 4 __start_data -> 5 [ABSOLUTE]\nsymbol 5 __start_data -> 5 [NON_INTERPOSABLE]\n");
-}
-
 -- without that section the last reference stands for the name
 abbrev pub no_start_symbol_is_made : Case
 no_start_symbol_is_made = record {
@@ -189,66 +153,6 @@ no_start_symbol_is_made = record {
       object (codes "a.o") (refers (codes "__start_data") ∷ []) ∷
       object (codes "b.o") (refers (codes "__start_data") ∷ []) ∷ []));
   outcome = report (codes "loaded 0 a.o\nloaded 1 b.o\nsymbol 0 <unnamed> -> 0 [ABSOLUTE]\nsymbol 1 <unnamed> -> 0 [ABSOLUTE | NON_INTERPOSABLE]\nsymbol 2 __start_data -> 4 [ABSOLUTE]\nsymbol 3 <unnamed> -> 0 [ABSOLUTE | NON_INTERPOSABLE]\nsymbol 4 __start_data -> 4 [ABSOLUTE | NON_INTERPOSABLE]\nundefined 4 __start_data\n");
-}
-
--- a script of the Rust form lists one name, and all others are local
-abbrev pub a_script_makes_a_name_local : Case
-a_script_makes_a_name_local = record {
-  world = world_of elf_like undemangled
-      (record {
-        objects = (
-            object (codes "a.o") (defines (codes "foo") 1 ∷ defines (codes "bar") 1 ∷ []) ∷ []);
-        scripts = [];
-        stubs = [];
-        options = (record default_options { output = SharedObject });
-        texts = texts (Some (codes "{ global: foo; local: *; };")) None;
-      });
-  outcome = report (codes "loaded 0 a.o\nsymbol 0 <unnamed> -> 0 [ABSOLUTE]\nsymbol 1 <unnamed> -> 0 [ABSOLUTE | NON_INTERPOSABLE]\nsymbol 2 foo -> 2 []\nsymbol 3 bar -> 3 [NON_INTERPOSABLE | DOWNGRADE_TO_LOCAL]\n");
-}
-
--- an explicit version that the script declares
-abbrev pub a_version_is_given : Case
-a_version_is_given = record {
-  world = world_of elf_like undemangled
-      (record {
-        objects = (
-            object (codes "a.o") (entry (codes "foo") (Some (codes "V1")) true Global Default Plain 0 (Section 1) ∷ []) ∷ []);
-        scripts = [];
-        stubs = [];
-        options = (record default_options { output = SharedObject });
-        texts = texts (Some (codes "V1 { global: *; };")) None;
-      });
-  outcome = report (codes "loaded 0 a.o\nsymbol 0 <unnamed> -> 0 [ABSOLUTE]\nsymbol 1 <unnamed> -> 0 [ABSOLUTE | NON_INTERPOSABLE]\nsymbol 2 foo -> 2 []\nversion 2 2\n");
-}
-
--- an explicit version that the script doesn't declare
-abbrev pub a_version_is_not_declared : Case
-a_version_is_not_declared = record {
-  world = world_of elf_like undemangled
-      (record {
-        objects = (
-            object (codes "a.o") (entry (codes "foo") (Some (codes "X")) true Global Default Plain 0 (Section 1) ∷ []) ∷ []);
-        scripts = [];
-        stubs = [];
-        options = (record default_options { output = SharedObject });
-        texts = texts (Some (codes "V1 { global: *; };")) None;
-      });
-  outcome = refusal (codes "Symbol foo has undefined version X");
-}
-
--- a linker script has a version script where one was given
-abbrev pub a_second_version_script : Case
-a_second_version_script = record {
-  world = world_of elf_like undemangled
-      (record {
-        objects = (
-            object (codes "a.o") (defines (codes "foo") 1 ∷ []) ∷ []);
-        scripts = (linker_script (codes "s.ld") None (Some (codes "{ global: x; };")) [] ∷ []);
-        stubs = [];
-        options = default_options;
-        texts = texts (Some (codes "V1 { global: *; };")) None;
-      });
-  outcome = refusal (codes "Multiple version scripts provided");
 }
 
 -- of tentative definitions the largest counts, the first of equals, and before a weak one
@@ -272,69 +176,6 @@ weak_before_common = record {
       file (codes "b.o") false false false false 4 (entry (codes "foo") None true Global Default Plain 4 Common ∷ []) [] ∷
       file (codes "c.o") false false false false 4 (entry (codes "foo") None true Global Default Plain 8 Common ∷ []) [] ∷ []));
   outcome = report (codes "loaded 0 a.o\nloaded 1 b.o\nloaded 2 c.o\nsymbol 0 <unnamed> -> 0 [ABSOLUTE]\nsymbol 1 foo -> 1 [NON_INTERPOSABLE]\nsymbol 2 foo -> 1 [NON_INTERPOSABLE]\nsymbol 3 foo -> 1 [NON_INTERPOSABLE]\n");
-}
-
--- of two linker scripts with an entry the last one counts
-abbrev pub the_last_script_says_the_entry : Case
-the_last_script_says_the_entry = record {
-  world = world_of elf_like undemangled
-      (record {
-        objects = (
-            member (codes "a.o") (defines (codes "foo") 1 ∷ []) ∷
-            member (codes "b.o") (defines (codes "bar") 1 ∷ []) ∷ []);
-        scripts = (linker_script (codes "s.ld") (Some (codes "foo")) None [] ∷ linker_script (codes "t.ld") (Some (codes "bar")) None [] ∷ linker_script (codes "u.ld") None None [] ∷ []);
-        stubs = [];
-        options = default_options;
-        texts = texts None None;
-      });
-  outcome = report (codes "loaded 1 b.o\nsymbol 0 <unnamed> -> 0 [ABSOLUTE]\nsymbol 1 <unnamed> -> 0 [ABSOLUTE | NON_INTERPOSABLE]\nsymbol 2 foo -> 2 [NON_INTERPOSABLE]\nsymbol 3 <unnamed> -> 0 [ABSOLUTE | NON_INTERPOSABLE]\nsymbol 4 bar -> 4 [NON_INTERPOSABLE | HAS_NON_IR_REF]\n");
-}
-
--- the option's entry counts before that of a script, and the platform's is not asked for
-abbrev pub the_option_says_the_entry : Case
-the_option_says_the_entry = record {
-  world = world_of elf_like undemangled
-      (record {
-        objects = (
-            member (codes "a.o") (defines (codes "foo") 1 ∷ []) ∷
-            member (codes "b.o") (defines (codes "bar") 1 ∷ []) ∷
-            member (codes "c.o") (defines (codes "baz") 1 ∷ []) ∷ []);
-        scripts = (linker_script (codes "s.ld") (Some (codes "bar")) None [] ∷ []);
-        stubs = [];
-        options = (record default_options { entry = (Some (codes "foo")); default_entry = (Some (codes "baz")) });
-        texts = texts None None;
-      });
-  outcome = report (codes "loaded 0 a.o\nsymbol 0 <unnamed> -> 0 [ABSOLUTE]\nsymbol 1 <unnamed> -> 0 [ABSOLUTE | NON_INTERPOSABLE]\nsymbol 2 foo -> 2 [NON_INTERPOSABLE | HAS_NON_IR_REF]\nsymbol 3 <unnamed> -> 0 [ABSOLUTE | NON_INTERPOSABLE]\nsymbol 4 bar -> 4 [NON_INTERPOSABLE]\nsymbol 5 <unnamed> -> 0 [ABSOLUTE | NON_INTERPOSABLE]\nsymbol 6 baz -> 6 [NON_INTERPOSABLE]\n");
-}
-
--- where neither an option nor a script says the entry it is the platform's
-abbrev pub the_platforms_entry : Case
-the_platforms_entry = record {
-  world = world_of elf_like undemangled
-      (record {
-        objects = (
-            member (codes "a.o") (defines (codes "foo") 1 ∷ []) ∷ []);
-        scripts = (linker_script (codes "s.ld") None None [] ∷ []);
-        stubs = [];
-        options = (record default_options { default_entry = (Some (codes "foo")) });
-        texts = texts None None;
-      });
-  outcome = report (codes "loaded 0 a.o\nsymbol 0 <unnamed> -> 0 [ABSOLUTE]\nsymbol 1 <unnamed> -> 0 [ABSOLUTE | NON_INTERPOSABLE]\nsymbol 2 foo -> 2 [NON_INTERPOSABLE | HAS_NON_IR_REF]\n");
-}
-
--- a symbol of thread-local storage that the script makes local is not marked as non-interposable
-abbrev pub a_local_tls_symbol : Case
-a_local_tls_symbol = record {
-  world = world_of elf_like undemangled
-      (record {
-        objects = (
-            object (codes "a.o") (entry (codes "foo") None true Global Default Tls 0 (Section 1) ∷ defines (codes "bar") 1 ∷ defines (codes "baz") 1 ∷ []) ∷ []);
-        scripts = [];
-        stubs = [];
-        options = (record default_options { output = SharedObject });
-        texts = texts (Some (codes "V1 { global: bar; local: *; };")) None;
-      });
-  outcome = report (codes "loaded 0 a.o\nsymbol 0 <unnamed> -> 0 [ABSOLUTE]\nsymbol 1 <unnamed> -> 0 [ABSOLUTE | NON_INTERPOSABLE]\nsymbol 2 foo -> 2 [DOWNGRADE_TO_LOCAL]\nsymbol 3 bar -> 3 []\nsymbol 4 baz -> 4 [NON_INTERPOSABLE | DOWNGRADE_TO_LOCAL]\nversion 2 2\nversion 3 2\nversion 4 2\n");
 }
 
 -- a protected reference has no shared target, one with a version neither: where nothing else defines the name it stays undefined
@@ -366,32 +207,6 @@ the_first_in_a_loaded_regular_object = record {
       file (codes "a.o") false false false false 3 (null_entry ∷ defines (codes "g") 1 ∷ []) (group 2 1 true (1 ∷ []) ∷ []) ∷
       file (codes "b.o") false false false false 3 (null_entry ∷ defines (codes "g") 1 ∷ entry (codes "f") None true Weak Default Plain 0 (Section 1) ∷ []) (group 2 1 true (1 ∷ []) ∷ []) ∷ []));
   outcome = report (codes "loaded 1 a.o\nloaded 2 b.o\nkept 1 0 g\nsymbol 0 <unnamed> -> 0 [ABSOLUTE]\nsymbol 1 <unnamed> -> 0 [ABSOLUTE | NON_INTERPOSABLE]\nsymbol 2 f -> 7 [NON_INTERPOSABLE]\nsymbol 3 <unnamed> -> 0 [ABSOLUTE | NON_INTERPOSABLE]\nsymbol 4 g -> 4 [NON_INTERPOSABLE]\nsymbol 5 <unnamed> -> 0 [ABSOLUTE | NON_INTERPOSABLE]\nsymbol 6 g -> 4 [NON_INTERPOSABLE]\nsymbol 7 f -> 7 [NON_INTERPOSABLE]\n");
-}
-
--- a script of the Rust form frees what the listed name means, here the second of its definitions
-abbrev pub a_rust_name_means_its_definition : Case
-a_rust_name_means_its_definition = record {
-  world = world_of elf_like undemangled
-      (record {
-        objects = (
-            object (codes "a.o") (entry (codes "foo") None true Weak Default Plain 0 (Section 1) ∷ []) ∷
-            object (codes "b.o") (defines (codes "foo") 1 ∷ []) ∷ []);
-        scripts = [];
-        stubs = [];
-        options = (record default_options { output = SharedObject });
-        texts = texts (Some (codes "{ global: foo; local: *; };")) None;
-      });
-  outcome = report (codes "loaded 0 a.o\nloaded 1 b.o\nsymbol 0 <unnamed> -> 0 [ABSOLUTE]\nsymbol 1 <unnamed> -> 0 [ABSOLUTE | NON_INTERPOSABLE]\nsymbol 2 foo -> 4 [NON_INTERPOSABLE | DOWNGRADE_TO_LOCAL]\nsymbol 3 <unnamed> -> 0 [ABSOLUTE | NON_INTERPOSABLE]\nsymbol 4 foo -> 4 []\n");
-}
-
--- the record that makes a start symbol passes no visibility, an earlier one does
-abbrev pub a_maker_passes_no_visibility : Case
-a_maker_passes_no_visibility = record {
-  world = world_of elf_like undemangled
-      (of_objects (record default_options { custom_sections = ((codes "data") ∷ (codes "d2") ∷ []) }) (
-      object (codes "a.o") (refers (codes "__start_data") ∷ entry (codes "__start_d2") None true Global Hidden Plain 0 Undefined ∷ entry (codes "__stop_data") None true Global Protected Plain 0 Undefined ∷ []) ∷
-      object (codes "b.o") (entry (codes "__start_data") None true Global Hidden Plain 0 Undefined ∷ refers (codes "__start_d2") ∷ []) ∷ []));
-  outcome = report (codes "loaded 0 a.o\nloaded 1 b.o\nsymbol 0 <unnamed> -> 0 [ABSOLUTE]\nsymbol 1 <unnamed> -> 0 [ABSOLUTE | NON_INTERPOSABLE]\nsymbol 2 __start_data -> 9 [ABSOLUTE]\nsymbol 3 __start_d2 -> 8 [ABSOLUTE | NON_INTERPOSABLE]\nsymbol 4 __stop_data -> 10 [ABSOLUTE | NON_INTERPOSABLE]\nsymbol 5 <unnamed> -> 0 [ABSOLUTE | NON_INTERPOSABLE]\nsymbol 6 __start_data -> 9 [ABSOLUTE | NON_INTERPOSABLE]\nsymbol 7 __start_d2 -> 8 [ABSOLUTE]\nsymbol 8 __start_d2 -> 8 [NON_INTERPOSABLE | DOWNGRADE_TO_LOCAL]\nsymbol 9 __start_data -> 9 [NON_INTERPOSABLE]\nsymbol 10 __stop_data -> 10 [NON_INTERPOSABLE]\n");
 }
 
 -- an undefined hidden reference passes its visibility to the definition of what its name is mapped to, be it dynamic
@@ -435,36 +250,6 @@ the_member_that_was_listed_before = record {
   outcome = refusal (codes "a.o: section 3 belongs to multiple groups");
 }
 
--- the second linker script with a version text is one too many
-abbrev pub two_linker_scripts_with_versions : Case
-two_linker_scripts_with_versions = record {
-  world = world_of elf_like undemangled
-      (record {
-        objects = (
-            object (codes "a.o") (defines (codes "foo") 1 ∷ []) ∷ []);
-        scripts = (linker_script (codes "s.ld") None (Some (codes "V1 { global: *; };")) [] ∷ linker_script (codes "t.ld") None (Some (codes "V2 { global: *; };")) [] ∷ []);
-        stubs = [];
-        options = default_options;
-        texts = texts None None;
-      });
-  outcome = refusal (codes "Multiple version scripts provided");
-}
-
--- a linker script's version text is the version script
-abbrev pub the_version_script_of_a_linker_script : Case
-the_version_script_of_a_linker_script = record {
-  world = world_of elf_like undemangled
-      (record {
-        objects = (
-            object (codes "a.o") (defines (codes "foo") 1 ∷ defines (codes "bar") 1 ∷ []) ∷ []);
-        scripts = (linker_script (codes "r.ld") None None [] ∷ linker_script (codes "s.ld") None (Some (codes "V1 { global: foo; local: *; };")) [] ∷ []);
-        stubs = [];
-        options = (record default_options { output = SharedObject });
-        texts = texts None None;
-      });
-  outcome = report (codes "loaded 0 a.o\nsymbol 0 <unnamed> -> 0 [ABSOLUTE]\nsymbol 1 <unnamed> -> 0 [ABSOLUTE | NON_INTERPOSABLE]\nsymbol 2 foo -> 2 []\nsymbol 3 bar -> 3 [NON_INTERPOSABLE | DOWNGRADE_TO_LOCAL]\nversion 2 2\nversion 3 2\n");
-}
-
 -- only a shared object is taken as needed, a regular object always
 abbrev pub an_object_that_is_no_library_is_not_optional : Case
 an_object_that_is_no_library_is_not_optional = record {
@@ -472,15 +257,6 @@ an_object_that_is_no_library_is_not_optional = record {
       (of_objects default_options (
       file (codes "a.o") false false false true 4 (null_entry ∷ defines (codes "foo") 1 ∷ []) [] ∷ []));
   outcome = report (codes "loaded 0 a.o\nsymbol 0 <unnamed> -> 0 [ABSOLUTE]\nsymbol 1 <unnamed> -> 0 [ABSOLUTE | NON_INTERPOSABLE]\nsymbol 2 foo -> 2 [NON_INTERPOSABLE]\n");
-}
-
--- where lists restrict, a forced export name keeps back all other names
-abbrev pub a_forced_export_makes_a_list : Case
-a_forced_export_makes_a_list = record {
-  world = world_of mach_like undemangled
-      (of_objects (record default_options { output = SharedObject; force_export = ((codes "foo") ∷ []) }) (
-      file (codes "a.o") false false false false 4 (defines (codes "foo") 1 ∷ defines (codes "bar") 1 ∷ []) [] ∷ []));
-  outcome = report (codes "loaded 0 a.o\nsymbol 0 <unnamed> -> 0 [ABSOLUTE]\nsymbol 1 foo -> 1 []\nsymbol 2 bar -> 2 [NON_INTERPOSABLE]\n");
 }
 
 -- no definition is loaded, so the first of the list counts
@@ -525,36 +301,6 @@ sections_of_shared_objects = record {
   outcome = report (codes "loaded 0 a.o\nloaded 1 l.so\nsymbol 0 <unnamed> -> 0 [ABSOLUTE]\nsymbol 1 <unnamed> -> 0 [ABSOLUTE | NON_INTERPOSABLE]\nsymbol 2 <unnamed> -> 0 [ABSOLUTE | DYNAMIC]\n");
 }
 
--- the real name of a wrapped one keeps its own definition, where it has one
-abbrev pub a_real_name_that_is_defined : Case
-a_real_name_that_is_defined = record {
-  world = world_of elf_like undemangled
-      (of_objects (record default_options { wrap = ((codes "foo") ∷ []) }) (
-      object (codes "a.o") (defines (codes "foo") 1 ∷ defines (codes "__wrap_foo") 1 ∷ defines (codes "__real_foo") 1 ∷ []) ∷
-      object (codes "main.o") (refers (codes "foo") ∷ refers (codes "__real_foo") ∷ []) ∷ []));
-  outcome = report (codes "loaded 0 a.o\nloaded 1 main.o\nsymbol 0 <unnamed> -> 0 [ABSOLUTE]\nsymbol 1 <unnamed> -> 0 [ABSOLUTE | NON_INTERPOSABLE]\nsymbol 2 foo -> 2 [NON_INTERPOSABLE]\nsymbol 3 __wrap_foo -> 3 [NON_INTERPOSABLE | HAS_NON_IR_REF]\nsymbol 4 __real_foo -> 4 [NON_INTERPOSABLE | HAS_NON_IR_REF]\nsymbol 5 <unnamed> -> 0 [ABSOLUTE | NON_INTERPOSABLE]\nsymbol 6 foo -> 3 [ABSOLUTE]\nsymbol 7 __real_foo -> 4 [ABSOLUTE]\n");
-}
-
--- else it means what the wrapped name meant
-abbrev pub a_real_name_that_is_not_defined : Case
-a_real_name_that_is_not_defined = record {
-  world = world_of elf_like undemangled
-      (of_objects (record default_options { wrap = ((codes "foo") ∷ []) }) (
-      object (codes "a.o") (defines (codes "foo") 1 ∷ defines (codes "__wrap_foo") 1 ∷ []) ∷
-      object (codes "main.o") (refers (codes "foo") ∷ refers (codes "__real_foo") ∷ []) ∷ []));
-  outcome = report (codes "loaded 0 a.o\nloaded 1 main.o\nsymbol 0 <unnamed> -> 0 [ABSOLUTE]\nsymbol 1 <unnamed> -> 0 [ABSOLUTE | NON_INTERPOSABLE]\nsymbol 2 foo -> 2 [NON_INTERPOSABLE | HAS_NON_IR_REF]\nsymbol 3 __wrap_foo -> 3 [NON_INTERPOSABLE | HAS_NON_IR_REF]\nsymbol 4 <unnamed> -> 0 [ABSOLUTE | NON_INTERPOSABLE]\nsymbol 5 foo -> 3 [ABSOLUTE]\nsymbol 6 __real_foo -> 2 [ABSOLUTE]\n");
-}
-
--- a name that is wrapped twice keeps what its real name meant; a wrapper can be wrapped
-abbrev pub two_wraps_of_a_name : Case
-two_wraps_of_a_name = record {
-  world = world_of elf_like undemangled
-      (of_objects (record default_options { wrap = ((codes "foo") ∷ (codes "foo") ∷ (codes "__wrap_foo") ∷ []) }) (
-      object (codes "a.o") (defines (codes "foo") 1 ∷ defines (codes "__wrap_foo") 1 ∷ defines (codes "__wrap___wrap_foo") 1 ∷ []) ∷
-      object (codes "main.o") (refers (codes "foo") ∷ refers (codes "__real_foo") ∷ refers (codes "__wrap_foo") ∷ refers (codes "__real___wrap_foo") ∷ []) ∷ []));
-  outcome = report (codes "loaded 0 a.o\nloaded 1 main.o\nsymbol 0 <unnamed> -> 0 [ABSOLUTE]\nsymbol 1 <unnamed> -> 0 [ABSOLUTE | NON_INTERPOSABLE]\nsymbol 2 foo -> 2 [NON_INTERPOSABLE | HAS_NON_IR_REF]\nsymbol 3 __wrap_foo -> 3 [NON_INTERPOSABLE | HAS_NON_IR_REF]\nsymbol 4 __wrap___wrap_foo -> 4 [NON_INTERPOSABLE | HAS_NON_IR_REF]\nsymbol 5 <unnamed> -> 0 [ABSOLUTE | NON_INTERPOSABLE]\nsymbol 6 foo -> 3 [ABSOLUTE]\nsymbol 7 __real_foo -> 2 [ABSOLUTE]\nsymbol 8 __wrap_foo -> 4 [ABSOLUTE]\nsymbol 9 __real___wrap_foo -> 3 [ABSOLUTE]\n");
-}
-
 -- a hidden reference to a version whose shared definition heads no plain list has no target
 abbrev pub a_versioned_shared_symbol_behind_another : Case
 a_versioned_shared_symbol_behind_another = record {
@@ -577,129 +323,6 @@ a_hidden_reference_where_weak_overrides_common = record {
       file (codes "r2.o") false true false false 4 (entry (codes "foo") None true Weak Default Plain 0 (Section 1) ∷ []) [] ∷
       file (codes "main.o") false false false false 4 (entry (codes "foo") None true Global Hidden Plain 0 Undefined ∷ []) [] ∷ []));
   outcome = report (codes "loaded 0 l.so\nloaded 2 r2.o\nloaded 3 main.o\nsymbol 0 <unnamed> -> 0 [ABSOLUTE]\nsymbol 1 foo -> 3 [DYNAMIC]\nsymbol 2 foo -> 3 [NON_INTERPOSABLE]\nsymbol 3 foo -> 3 [NON_INTERPOSABLE | DOWNGRADE_TO_LOCAL | HAS_NON_IR_REF]\nsymbol 4 foo -> 3 [ABSOLUTE | NON_INTERPOSABLE]\n");
-}
-
--- required names load their definitions, and each that has none is told, in the order of the list
-abbrev pub a_required_export_that_is_missing : Case
-a_required_export_that_is_missing = record {
-  world = world_of mach_like undemangled
-      (record {
-        objects = (
-            file (codes "a.o") false true false false 4 (defines (codes "_bar") 1 ∷ defines (codes "_baz") 1 ∷ []) [] ∷
-            file (codes "b.o") false false false false 4 (entry (codes "_baz") None true Weak Default Plain 0 (Section 1) ∷ defines (codes "other") 1 ∷ []) [] ∷
-            file (codes "c.o") false false false false 4 (refers (codes "_qux") ∷ []) [] ∷ []);
-        scripts = [];
-        stubs = [];
-        options = (record default_options { output = SharedObject });
-        texts = texts None (Some (codes "_foo\n_bar # c\n_b*\n_foo\n_qux\n"));
-      });
-  outcome = report (codes "loaded 0 a.o\nloaded 1 b.o\nloaded 2 c.o\nsymbol 0 <unnamed> -> 0 [ABSOLUTE]\nsymbol 1 _bar -> 1 []\nsymbol 2 _baz -> 2 []\nsymbol 3 _baz -> 2 []\nsymbol 4 other -> 4 [NON_INTERPOSABLE]\nsymbol 5 _qux -> 5 [ABSOLUTE | DYNAMIC]\nundefined 5 _qux\nmissing _foo\nmissing _foo\nmissing _qux\n");
-}
-
--- the entry of a linker script counts before the platform's
-abbrev pub a_scripts_entry_before_the_platforms : Case
-a_scripts_entry_before_the_platforms = record {
-  world = world_of elf_like undemangled
-      (record {
-        objects = (
-            member (codes "a.o") (defines (codes "foo") 1 ∷ []) ∷
-            member (codes "b.o") (defines (codes "bar") 1 ∷ []) ∷ []);
-        scripts = (linker_script (codes "s.ld") (Some (codes "bar")) None [] ∷ []);
-        stubs = [];
-        options = (record default_options { default_entry = (Some (codes "foo")) });
-        texts = texts None None;
-      });
-  outcome = report (codes "loaded 1 b.o\nsymbol 0 <unnamed> -> 0 [ABSOLUTE]\nsymbol 1 <unnamed> -> 0 [ABSOLUTE | NON_INTERPOSABLE]\nsymbol 2 foo -> 2 [NON_INTERPOSABLE]\nsymbol 3 <unnamed> -> 0 [ABSOLUTE | NON_INTERPOSABLE]\nsymbol 4 bar -> 4 [NON_INTERPOSABLE | HAS_NON_IR_REF]\n");
-}
-
--- beside a shared symbol a linker script's symbol counts for nothing
-abbrev pub a_script_symbol_is_no_pick : Case
-a_script_symbol_is_no_pick = record {
-  world = world_of elf_like undemangled
-      (record {
-        objects = (
-            shared (codes "l.so") (defines (codes "foo") 1 ∷ []) ∷
-            object (codes "a.o") (entry (codes "foo") None true Global Hidden Plain 0 Undefined ∷ []) ∷ []);
-        scripts = (linker_script (codes "s.ld") None None (redirect (codes "foo") Script [] false ∷ []) ∷ []);
-        stubs = [];
-        options = default_options;
-        texts = texts None None;
-      });
-  outcome = report (codes "loaded 0 l.so\nloaded 1 a.o\nsymbol 0 <unnamed> -> 0 [ABSOLUTE]\nsymbol 1 <unnamed> -> 0 [ABSOLUTE | DYNAMIC]\nsymbol 2 foo -> 2 [DYNAMIC | NON_INTERPOSABLE | DOWNGRADE_TO_LOCAL]\nsymbol 3 <unnamed> -> 0 [ABSOLUTE | NON_INTERPOSABLE]\nsymbol 4 foo -> 4 [ABSOLUTE | NON_INTERPOSABLE]\nsymbol 5 foo -> 2 [NON_INTERPOSABLE]\nundefined 4 foo\n");
-}
-
--- a text that is no script is told before that there is no object
-abbrev pub a_faulty_text_without_an_object : Case
-a_faulty_text_without_an_object = record {
-  world = world_of elf_like undemangled
-      (record {
-        objects = [];
-        scripts = [];
-        stubs = (stub (codes "l.tbd") [] [] ∷ []);
-        options = default_options;
-        texts = texts (Some (codes "{ foo")) None;
-      });
-  outcome = refusal (codes "Failed to parse version script: Syntax error at 2");
-}
-
--- of two faulty texts the version script's is told
-abbrev pub the_version_script_is_told_first : Case
-the_version_script_is_told_first = record {
-  world = world_of elf_like undemangled
-      (record {
-        objects = (
-            object (codes "a.o") [] ∷ []);
-        scripts = [];
-        stubs = [];
-        options = default_options;
-        texts = texts (Some (codes "V1 { foo")) (Some (codes "{ bar"));
-      });
-  outcome = refusal (codes "Failed to parse version script: Syntax error at 5");
-}
-
--- then that of the export list
-abbrev pub the_export_list_is_told_before_forced_names : Case
-the_export_list_is_told_before_forced_names = record {
-  world = world_of elf_like undemangled
-      (record {
-        objects = (
-            object (codes "a.o") [] ∷ []);
-        scripts = [];
-        stubs = [];
-        options = (record default_options { force_export = ((codes "}x") ∷ []) });
-        texts = texts None (Some (codes "{ bar"));
-      });
-  outcome = refusal (codes "Failed to parse symbol export list: Syntax error at 2");
-}
-
--- then that of the first faulty forced export name
-abbrev pub forced_names_are_told_before_linker_scripts : Case
-forced_names_are_told_before_linker_scripts = record {
-  world = world_of elf_like undemangled
-      (record {
-        objects = (
-            object (codes "a.o") [] ∷ []);
-        scripts = (linker_script (codes "s.ld") None (Some (codes "{ foo")) [] ∷ []);
-        stubs = [];
-        options = (record default_options { force_export = ((codes "foo") ∷ (codes "}x") ∷ (codes "}y") ∷ []) });
-        texts = texts None None;
-      });
-  outcome = refusal (codes "Failed to parse forced export 1: Syntax error at 0");
-}
-
--- then that of a linker script, where no version script was taken
-abbrev pub a_faulty_text_of_a_linker_script : Case
-a_faulty_text_of_a_linker_script = record {
-  world = world_of elf_like undemangled
-      (record {
-        objects = (
-            object (codes "a.o") [] ∷ []);
-        scripts = (linker_script (codes "r.ld") None None [] ∷ linker_script (codes "s.ld") None (Some (codes "{ foo")) [] ∷ []);
-        stubs = [];
-        options = default_options;
-        texts = texts None None;
-      });
-  outcome = refusal (codes "Failed to parse version script of linker script 1: Syntax error at 2");
 }
 
 -- a section in two groups is told before duplicates
@@ -767,17 +390,6 @@ a_hidden_definition_of_a_version = record {
   outcome = report (codes "loaded 0 a.o\nloaded 1 b.o\nsymbol 0 <unnamed> -> 0 [ABSOLUTE]\nsymbol 1 <unnamed> -> 0 [ABSOLUTE | NON_INTERPOSABLE]\nsymbol 2 foo -> 2 [NON_INTERPOSABLE | DOWNGRADE_TO_LOCAL]\nsymbol 3 <unnamed> -> 0 [ABSOLUTE | NON_INTERPOSABLE]\nsymbol 4 foo -> 2 [NON_INTERPOSABLE | DOWNGRADE_TO_LOCAL]\nsymbol 5 <unnamed> -> 0 [ABSOLUTE | NON_INTERPOSABLE]\nsymbol 6 foo -> 2 [NON_INTERPOSABLE | DOWNGRADE_TO_LOCAL]\nversion 2 1\n");
 }
 
--- a hidden reference to a start symbol passes its visibility to what the name is mapped to, before the new symbol
-abbrev pub a_start_symbol_that_a_shared_object_defines : Case
-a_start_symbol_that_a_shared_object_defines = record {
-  world = world_of elf_like undemangled
-      (of_objects (record default_options { custom_sections = ((codes "data") ∷ []) }) (
-      shared (codes "l.so") (defines (codes "__start_data") 1 ∷ []) ∷
-      object (codes "a.o") (entry (codes "__start_data") None true Global Hidden Plain 0 Undefined ∷ []) ∷
-      object (codes "b.o") (entry (codes "__start_data") None true Global Hidden Plain 0 Undefined ∷ []) ∷ []));
-  outcome = report (codes "loaded 0 l.so\nloaded 1 a.o\nloaded 2 b.o\nsymbol 0 <unnamed> -> 0 [ABSOLUTE]\nsymbol 1 <unnamed> -> 0 [ABSOLUTE | DYNAMIC]\nsymbol 2 __start_data -> 2 [DYNAMIC | NON_INTERPOSABLE | DOWNGRADE_TO_LOCAL]\nsymbol 3 <unnamed> -> 0 [ABSOLUTE | NON_INTERPOSABLE]\nsymbol 4 __start_data -> 7 [ABSOLUTE | NON_INTERPOSABLE]\nsymbol 5 <unnamed> -> 0 [ABSOLUTE | NON_INTERPOSABLE]\nsymbol 6 __start_data -> 7 [ABSOLUTE | NON_INTERPOSABLE]\nsymbol 7 __start_data -> 7 [NON_INTERPOSABLE]\n");
-}
-
 -- a discarded group marks nothing, be its signature a symbol of its own
 abbrev pub a_local_signature_of_a_discarded_group : Case
 a_local_signature_of_a_discarded_group = record {
@@ -798,35 +410,5 @@ two_references_of_which_the_last_stands = record {
   outcome = report (codes "loaded 0 a.o\nloaded 1 b.o\nsymbol 0 <unnamed> -> 0 [ABSOLUTE]\nsymbol 1 <unnamed> -> 0 [ABSOLUTE | NON_INTERPOSABLE]\nsymbol 2 foo -> 5 [ABSOLUTE | NON_INTERPOSABLE]\nsymbol 3 <unnamed> -> 0 [ABSOLUTE | NON_INTERPOSABLE]\nsymbol 4 foo -> 5 [ABSOLUTE]\nsymbol 5 foo -> 5 [ABSOLUTE | DYNAMIC | UNDEFINED_WEAK]\nundefined 5 foo\n");
 }
 
--- a version is asked for a definition that is not local, be it hidden
-abbrev pub a_local_symbol_has_no_version : Case
-a_local_symbol_has_no_version = record {
-  world = world_of elf_like undemangled
-      (record {
-        objects = (
-            object (codes "a.o") (entry (codes "foo") None true Local Default Plain 0 (Section 1) ∷ entry (codes "bar") None true Global Hidden Plain 0 (Section 1) ∷ []) ∷ []);
-        scripts = [];
-        stubs = [];
-        options = (record default_options { output = SharedObject });
-        texts = texts (Some (codes "V1 { global: *; };")) None;
-      });
-  outcome = report (codes "loaded 0 a.o\nsymbol 0 <unnamed> -> 0 [ABSOLUTE]\nsymbol 1 <unnamed> -> 0 [ABSOLUTE | NON_INTERPOSABLE]\nsymbol 2 foo -> 2 [NON_INTERPOSABLE]\nsymbol 3 bar -> 3 [NON_INTERPOSABLE]\nversion 3 2\n");
-}
-
--- stub libraries and linker scripts count as loaded, so a weak reference to their symbols is not undefined
-abbrev pub a_weak_reference_to_a_stub_library : Case
-a_weak_reference_to_a_stub_library = record {
-  world = world_of elf_like undemangled
-      (record {
-        objects = (
-            object (codes "a.o") (entry (codes "foo") None true Weak Default Plain 0 Undefined ∷ entry (codes "bar") None true Weak Default Plain 0 Undefined ∷ []) ∷ []);
-        scripts = (linker_script (codes "s.ld") None None (redirect (codes "bar") Script [] false ∷ []) ∷ []);
-        stubs = (stub (codes "libS.tbd") ((codes "foo") ∷ []) [] ∷ []);
-        options = default_options;
-        texts = texts None None;
-      });
-  outcome = report (codes "loaded 0 a.o\nsymbol 0 <unnamed> -> 0 [ABSOLUTE]\nsymbol 1 <unnamed> -> 0 [ABSOLUTE | NON_INTERPOSABLE]\nsymbol 2 foo -> 5 [ABSOLUTE]\nsymbol 3 bar -> 4 [ABSOLUTE]\nsymbol 4 bar -> 4 [NON_INTERPOSABLE | HAS_NON_IR_REF]\nsymbol 5 foo -> 5 [DYNAMIC | HAS_NON_IR_REF]\n");
-}
-
 unfoldable pub all_cases : List Case
-all_cases = members_that_are_asked_for ∷ no_objects ∷ a_weak_reference_loads_nothing ∷ an_unloaded_definition_stands_aside ∷ a_hidden_reference_takes_no_shared_symbol ∷ shared_objects_load_no_shared_objects ∷ two_strong_definitions ∷ two_strong_definitions_are_allowed ∷ one_group_is_kept ∷ a_partial_output_marks_signatures ∷ a_section_in_two_groups ∷ an_unloaded_section_in_two_groups ∷ a_weak_version_gives_way ∷ a_reference_to_a_version ∷ a_wrapped_name_finds_its_wrapper ∷ a_start_symbol_is_made ∷ no_start_symbol_is_made ∷ a_script_makes_a_name_local ∷ a_version_is_given ∷ a_version_is_not_declared ∷ a_second_version_script ∷ the_largest_common_symbol ∷ weak_before_common ∷ the_last_script_says_the_entry ∷ the_option_says_the_entry ∷ the_platforms_entry ∷ a_local_tls_symbol ∷ a_protected_reference_to_a_shared_symbol ∷ a_protected_record_of_a_shared_symbol ∷ the_first_in_a_loaded_regular_object ∷ a_rust_name_means_its_definition ∷ a_maker_passes_no_visibility ∷ visibility_is_passed_to_a_definition ∷ a_weak_hidden_reference ∷ the_signature_of_a_discarded_group ∷ the_member_that_was_listed_before ∷ two_linker_scripts_with_versions ∷ the_version_script_of_a_linker_script ∷ an_object_that_is_no_library_is_not_optional ∷ a_forced_export_makes_a_list ∷ the_head_of_a_list ∷ the_head_of_a_versioned_list ∷ too_many_sections ∷ sections_of_shared_objects ∷ a_real_name_that_is_defined ∷ a_real_name_that_is_not_defined ∷ two_wraps_of_a_name ∷ a_versioned_shared_symbol_behind_another ∷ a_hidden_reference_where_weak_overrides_common ∷ a_required_export_that_is_missing ∷ a_scripts_entry_before_the_platforms ∷ a_script_symbol_is_no_pick ∷ a_faulty_text_without_an_object ∷ the_version_script_is_told_first ∷ the_export_list_is_told_before_forced_names ∷ forced_names_are_told_before_linker_scripts ∷ a_faulty_text_of_a_linker_script ∷ a_section_in_two_groups_before_duplicates ∷ duplicates_before_versions ∷ a_shared_definition_beside_a_discarded_one ∷ a_version_stands_for_its_plain_choice ∷ a_version_does_not_stand_for_a_shared_symbol ∷ a_hidden_definition_of_a_version ∷ a_start_symbol_that_a_shared_object_defines ∷ a_local_signature_of_a_discarded_group ∷ two_references_of_which_the_last_stands ∷ a_local_symbol_has_no_version ∷ a_weak_reference_to_a_stub_library ∷ []
+all_cases = members_that_are_asked_for ∷ a_weak_reference_loads_nothing ∷ an_unloaded_definition_stands_aside ∷ a_hidden_reference_takes_no_shared_symbol ∷ shared_objects_load_no_shared_objects ∷ two_strong_definitions ∷ two_strong_definitions_are_allowed ∷ one_group_is_kept ∷ a_partial_output_marks_signatures ∷ a_section_in_two_groups ∷ an_unloaded_section_in_two_groups ∷ a_weak_version_gives_way ∷ a_reference_to_a_version ∷ no_start_symbol_is_made ∷ the_largest_common_symbol ∷ weak_before_common ∷ a_protected_reference_to_a_shared_symbol ∷ a_protected_record_of_a_shared_symbol ∷ the_first_in_a_loaded_regular_object ∷ visibility_is_passed_to_a_definition ∷ a_weak_hidden_reference ∷ the_signature_of_a_discarded_group ∷ the_member_that_was_listed_before ∷ an_object_that_is_no_library_is_not_optional ∷ the_head_of_a_list ∷ the_head_of_a_versioned_list ∷ too_many_sections ∷ sections_of_shared_objects ∷ a_versioned_shared_symbol_behind_another ∷ a_hidden_reference_where_weak_overrides_common ∷ a_section_in_two_groups_before_duplicates ∷ duplicates_before_versions ∷ a_shared_definition_beside_a_discarded_one ∷ a_version_stands_for_its_plain_choice ∷ a_version_does_not_stand_for_a_shared_symbol ∷ a_hidden_definition_of_a_version ∷ a_local_signature_of_a_discarded_group ∷ two_references_of_which_the_last_stands ∷ []

@@ -142,10 +142,6 @@ is_definition x = not (entry_passes (λ e. is_undefined e.place) false x.source)
 abbrev pub is_reference : Symbol → Bool
 is_reference x = entry_passes (λ e. is_undefined e.place && not (is_local e.binding)) false x.source && not (is_concealed x.source)
 
--- a member of an archive that is not taken whole, or a shared object that is taken only as needed
-abbrev pub is_optional : ObjectFile → Bool
-is_optional o = (o.modifiers.archive && not o.modifiers.whole_archive) || (o.object.is_dynamic && o.modifiers.as_needed)
-
 -- the id of an object's first symbol
 abbrev pub first_symbol_of : World → ℕ → ℕ
 first_symbol_of w f = length (prelude_symbols w.options) + length (object_symbols 0 (take f w.objects))

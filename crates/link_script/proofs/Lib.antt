@@ -3,8 +3,12 @@ pub mod Sections
 pub mod Growing
 pub mod Skipping
 pub mod Spelled
+pub mod FirstClose
 pub mod Asked
 pub mod NamesLemmas
+pub mod Numbers
+pub mod VersionIndex
+pub mod Indexed
 pub mod Pushing
 pub mod Best
 pub mod Listed

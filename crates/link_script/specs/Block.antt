@@ -1,5 +1,5 @@
 -- Extern blocks.
-use Rattle.std.specs.Prelude.{ℕ, suc, ◌-◌, Bool, false, List, [], ◌∷◌, length, take, nat_lt, ◌==◌, ◌&&◌, if◌then◌else◌, Option, Some, None, Result, Ok, position}
+use Rattle.std.specs.Prelude.{◌≡◌, ◌≤◌, ℕ, suc, ◌-◌, Bool, false, List, [], ◌∷◌, length, take, nat_lt, ◌==◌, ◌&&◌, if◌then◌else◌, Option, Some, None, Result, Ok, position}
 use Rattle.std.specs.List.{suffix_len, position_or_len}
 use Rattle.std.specs.Option.{option_map}
 use Rattle.link_script.specs.declared.fault.Language.{Language}
@@ -42,6 +42,11 @@ is_close c after = c == 125 && begins_with after 59
 abbrev pub close_place : List ℕ → Option ℕ
 close_place [] = None
 close_place (c ∷ rest) = if is_close c rest then Some 0 else option_map (λ n. suc n) (close_place rest)
+
+-- A `};` that was found with so many bytes left is the first one, as long as the text has not passed it.
+abbrev pub StillFirst : Option ℕ → List ℕ → Type 0
+StillFirst None text = Unit {0}
+StillFirst (Some left) text = left ≤ length text → close_place text ≡ Some (length text - left)
 
 abbrev pub semicolon_before : List ℕ → ℕ → Bool
 semicolon_before text place = or_else (position (λ c. c == 59) text) (λ at. nat_lt at place) false

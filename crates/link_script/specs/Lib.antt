@@ -17,6 +17,7 @@ pub mod Rank
 pub mod RustForm
 pub mod Regular
 pub mod VersionOf
+pub mod VersionIndex
 pub mod Script
 pub mod ErrorText
 pub mod GnuList

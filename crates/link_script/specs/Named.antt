@@ -1,5 +1,5 @@
 -- Named versions.
-use Rattle.std.specs.Prelude.{ℕ, suc, Bool, ◌==◌, ◌||◌, not, if◌then◌else◌, List, [], ◌∷◌, length, take, drop, position, Option, Some, None, Result, Ok}
+use Rattle.std.specs.Prelude.{◌≡◌, ℕ, suc, Bool, ◌==◌, ◌||◌, not, if◌then◌else◌, List, [], ◌∷◌, length, take, drop, position, Option, Some, None, Result, Ok}
 use Rattle.std.specs.Str.{bytes_eq}
 use Rattle.link_script.specs.declared.named.RawVersion.{RawVersion}
 use Rattle.link_script.specs.declared.fault.Fault.{Fault}
@@ -7,6 +7,7 @@ use Rattle.link_script.specs.declared.fault.ScriptErrorKind.TheVariants.{Syntax,
 use Rattle.link_script.specs.Fault.{◌>>=◌, refuse}
 use Rattle.link_script.specs.Skip.{skip}
 use Rattle.link_script.specs.Many.{grow}
+use Rattle.link_script.specs.Names.{number_in}
 use Rattle.link_script.specs.Body.{body_at}
 
 -- not a space, tab, LF, parenthesis or brace
@@ -21,6 +22,10 @@ name_len (c ∷ rest) = if is_name_byte c then suc (name_len rest) else 0
 abbrev pub number_of : ℕ → List RawVersion → List ℕ → Option ℕ
 number_of n [] name = None
 number_of n (v ∷ versions) name = if bytes_eq v.name name then Some n else number_of (suc n) versions name
+
+-- the numbers are those of the versions' names
+abbrev pub AreNumbers : List RawVersion → List (List ℕ × ℕ) → Type 0
+AreNumbers versions numbers = (name : List ℕ) → number_in numbers name ≡ number_of 1 versions name
 
 abbrev pub tail : List ℕ → List ℕ
 tail [] = []

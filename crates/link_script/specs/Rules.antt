@@ -1,5 +1,5 @@
 -- Which names the rules of a version fit, and the strongest match as the passes over the versions find it.
-use Rattle.std.specs.Prelude.{ℕ, List, [], ◌∷◌, Bool, false, ◌||◌, if◌then◌else◌, zero, suc, length, slice_get, Option, Some, None}
+use Rattle.std.specs.Prelude.{ℕ, List, [], ◌∷◌, Bool, false, not, ◌||◌, ◌==◌, if◌then◌else◌, zero, suc, length, slice_get, Option, Some, None}
 use Rattle.std.specs.Str.{chars}
 use Rattle.link_glob.specs.Glob.{GlobToken, does_match}
 use Rattle.link_script.specs.declared.rules.BasicMatchRules.{BasicMatchRules}
@@ -30,6 +30,19 @@ rules_fit rules Exact name text = exact_fits rules.exact.all name
 rules_fit rules Nonstar name text = glob_fits rules.nonstar_globs.items text
 rules_fit rules Star name text = glob_fits rules.star_globs.items text
 rules_fit rules Every name text = rules.matches_all
+
+-- whether there is a pattern of this class
+abbrev pub rules_have : Class → BasicMatchRules → Bool
+rules_have Exact rules = not (length rules.exact.all == 0)
+rules_have Nonstar rules = not (length rules.nonstar_globs.items == 0)
+rules_have Star rules = not (length rules.star_globs.items == 0)
+rules_have Every rules = rules.matches_all
+
+-- whether one of the version's sections has one, in either language
+abbrev pub version_has : Class → Version → Bool
+version_has class v =
+    (rules_have class v.version_body.globals.general || rules_have class v.version_body.globals.cxx)
+    || (rules_have class v.version_body.locals.general || rules_have class v.version_body.locals.cxx)
 
 -- patterns of plain names see the bytes, and those of C++ what is demangled
 abbrev pub plain_fits : MatchRules → Class → Asked → Bool

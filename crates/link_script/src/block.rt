@@ -3,7 +3,7 @@
 ghost use Rattle.std.specs.Prelude.{◌≡◌, ◌<◌, ◌≤◌, length, position, Some, None, IsSome, IfOk, IfErr, IfSome};
 ghost use Rattle.std.specs.Option.{MatchOption};
 ghost use Rattle.link_script.specs.Fault.{IsWithin, Gives, FaultIs};
-ghost use Rattle.link_script.specs.Block.{language_at, extern_text, inner_extern, is_close, without_blanks, close_place, semicolon_before, block_turn, block_at};
+ghost use Rattle.link_script.specs.Block.{language_at, extern_text, inner_extern, is_close, without_blanks, close_place, semicolon_before, StillFirst, block_turn, block_at};
 
 use crate::fault::{Fault, Language, ReadError, ScriptErrorKind};
 use crate::matcher::SymbolMatcher;
@@ -36,7 +36,8 @@ fn is_close(byte: u8, after: &[u8]) -> bool
 
 /// Where `};` stands first.
 fn close_of(text: &[u8]) -> Option<usize>
-    ensures { result ≡ close_place text.now }
+    ensures value { result ≡ close_place text.now }
+    ensures within { IfSome result (λ place. place < length text.now) }
 {
     let mut at = 0;
     let mut rest = text;
@@ -48,6 +49,31 @@ fn close_of(text: &[u8]) -> Option<usize>
         rest = after;
     }
     None
+}
+
+/// The `};` that was found last, by how many bytes are left there.
+#[derive(Drop)]
+struct LastClose {
+    /// `None` until one was found.
+    left: Option<usize>,
+}
+
+impl LastClose {
+    /// Where `};` stands first. Looks for it only where the text has passed the one that was found last.
+    fn place_in(&mut self, text: &[u8]) -> Option<usize>
+        requires { StillFirst self.old.left text.now }
+        ensures value { result ≡ close_place text.now }
+        ensures kept { StillFirst self.new.left text.now }
+    {
+        match self.left {
+            Some(left) if left <= text.len() => Some(text.len() - left),
+            _ => {
+                let place = close_of(text)?;
+                self.left = Some(text.len() - place);
+                Some(place)
+            }
+        }
+    }
 }
 
 /// The bytes without the blanks at their end.
@@ -102,10 +128,16 @@ fn inner_extern(alloc: Global, left: usize, text: &[u8]) -> ReadError
 
 /// One turn of a block: a matcher, or the block's end.
 #[tactic(auto, unfolding(crate::specs::Block::block_turn))]
-fn block_turn(alloc: Global, text: &[u8]) -> Result<(Option<SymbolMatcher>, &[u8]), ReadError>
+fn block_turn<'t>(
+    alloc: Global,
+    close: &mut LastClose,
+    text: &'t [u8],
+) -> Result<(Option<SymbolMatcher>, &'t [u8]), ReadError>
+    requires { StillFirst close.old.left text.now }
     ensures gives { Gives (λ x. (x.0, x.1.now)) result (block_turn text.now) }
     ensures shorter { IfOk result (λ x. IsSome x.0 → length x.1.now < length text.now) }
     ensures no_longer { IfOk result (λ x. length x.1.now ≤ length text.now) }
+    ensures kept { IfOk result (λ x. IsSome x.0 → StillFirst close.new.left x.1.now) }
     ensures inside { IfErr result (λ e. IsWithin e (length text.now)) }
 {
     let text = skip(text)?;
@@ -115,10 +147,10 @@ fn block_turn(alloc: Global, text: &[u8]) -> Result<(Option<SymbolMatcher>, &[u8
     if let Some(rest) = strip(text, b"extern ") {
         return Err(inner_extern(alloc, text.len(), rest));
     }
-    let Some(close) = close_of(text) else {
+    let Some(place) = close.place_in(text) else {
         return Err(syntax(text.len()));
     };
-    let stop = if is_before(text, close) { b';' } else { b'}' };
+    let stop = if is_before(text, place) { b';' } else { b'}' };
     let (matcher, rest) = token_at(alloc, stop, text)?;
     Ok((Some(matcher), rest))
 }
@@ -141,9 +173,10 @@ pub fn block_at(alloc: Global, text: &[u8]) -> Result<(Seq<SymbolMatcher>, &[u8]
     ensures inside { IfErr result (λ e. IsWithin e (length text.now)) }
 {
     let mut matchers = Seq::new(alloc);
+    let mut close = LastClose { left: None };
     let mut rest = text;
     'turns: loop {
-        let (matcher, after) = block_turn(alloc, rest)?;
+        let (matcher, after) = block_turn(alloc, &mut close, rest)?;
         let Some(matcher) = matcher else {
             return Ok((matchers, after));
         };

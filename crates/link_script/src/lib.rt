@@ -12,8 +12,10 @@ mod gnu_list;
 mod lookup;
 mod macho_list;
 mod matcher;
+mod name_map;
 mod name_set;
 mod named;
+mod numbered;
 mod rank;
 mod regular;
 mod rules;
@@ -22,6 +24,7 @@ mod script;
 mod skip;
 mod symbol_version;
 mod token;
+mod version_index;
 
 pub use body::{RawVersionBody, Side};
 pub use entry::parse_matcher;

@@ -1,11 +1,12 @@
 //! Sets of names.
 
-ghost use Rattle.std.specs.Prelude.{◌≡◌, ◌<◌, ◌≤◌, ◌+◌, [], ℕ, List, IsOk, OnOk, OnErr};
-ghost use Rattle.link_script.specs.Names.{Names, has_name, AddsName};
+ghost use Rattle.std.specs.Prelude.{◌≡◌, ◌==◌, ◌<◌, ◌≤◌, ◌+◌, [], ℕ, List, length, IsOk, OnOk, OnErr};
+ghost use Rattle.link_script.specs.Names.{Names, texts, has_name, AddsName};
 
 use link_ids::Name;
 use std::alloc::{AllocError, Global};
 use std::collections::HashSet;
+use std::collections::hash_set::Iter;
 use std::marker::Model;
 
 /// Names without order, in room for some more. A contract sees a list of them, asks by `has_name` which ones are in it,
@@ -51,6 +52,20 @@ impl NameSet {
         ensures ok { OnOk result (count ≤ self.new.room) }
     {
         self.names.reserve(count)
+    }
+
+    /// The names, in no order that means something.
+    pub fn iter(&self) -> Iter<'_, Vec<u8>>
+        ensures { texts result ≡ self.now.all }
+    {
+        self.names.iter()
+    }
+
+    /// Whether there is none.
+    pub fn is_empty(&self) -> bool
+        ensures { result ≡ (length self.now.all == 0) }
+    {
+        self.names.is_empty()
     }
 
     /// Whether the name is one of them.

@@ -2,10 +2,11 @@
 
 ghost use Rattle.std.specs.Prelude.{◌≡◌, ◌<◌, ◌≤◌, ◌^◌, [], length, IfOk, IfErr};
 ghost use Rattle.link_script.specs.Fault.{IsWithin, Gives};
-ghost use Rattle.link_script.specs.Named.{is_name_byte, name_len, number_of, parent_at, named_at, versions_at};
+ghost use Rattle.link_script.specs.Named.{is_name_byte, name_len, parent_at, named_at, versions_at};
 
 use crate::body::{RawVersionBody, body_at};
 use crate::fault::{Fault, ReadError, ScriptErrorKind};
+use crate::numbered::NumberedVersions;
 use crate::skip::{place_of, skip, syntax};
 use link_ids::{Name, Seq};
 use std::alloc::Global;
@@ -42,28 +43,12 @@ fn name_len(text: &[u8]) -> usize
     n
 }
 
-/// The number of the first version of this name.
-fn number_of(versions: &[RawVersion], name: &[u8]) -> Option<u16>
-    requires { length versions.now < 32_767 }
-    ensures { result ≡ number_of 1 versions.now name.now }
-{
-    let mut number = 1;
-    for version in versions {
-        if version.name.is(name) {
-            return Some(number);
-        }
-        number += 1;
-    }
-    None
-}
-
 /// A version's parent, up to a semicolon.
 #[tactic(auto, unfolding(crate::specs::Named::parent_at))]
 fn parent_at<'t>(
-    versions: &[RawVersion],
+    versions: &NumberedVersions,
     text: &'t [u8],
 ) -> Result<(Option<u16>, &'t [u8]), ReadError>
-    requires { length versions.now < 32_767 }
     ensures gives { Gives (λ x. (x.0, x.1.now)) result (parent_at versions.now text.now) }
     ensures shorter { IfOk result (λ x. length x.1.now < length text.now) }
     ensures inside { IfErr result (λ e. IsWithin e (length text.now)) }
@@ -78,7 +63,7 @@ fn parent_at<'t>(
     if end == 0 {
         return Ok((None, rest));
     }
-    match number_of(versions, name) {
+    match versions.number_of(name) {
         Some(number) => Ok((Some(number), rest)),
         None => Err(ReadError::Fault(Fault {
             left: text.len(),
@@ -91,10 +76,9 @@ fn parent_at<'t>(
 #[tactic(auto, unfolding(crate::specs::Named::named_at))]
 fn named_at<'t>(
     alloc: Global,
-    versions: &[RawVersion],
+    versions: &NumberedVersions,
     text: &'t [u8],
 ) -> Result<(RawVersion, &'t [u8]), ReadError>
-    requires { length versions.now < 32_767 }
     ensures gives { Gives (λ x. (x.0, x.1.now)) result (named_at versions.now text.now) }
     ensures room { IfOk result (λ x. length versions.now < 32_766) }
     ensures shorter { IfOk result (λ x. length x.1.now < length text.now) }
@@ -131,12 +115,12 @@ pub fn versions_at(alloc: Global, text: &[u8]) -> Result<Seq<RawVersion>, ReadEr
     ensures few { IfOk result (λ v. length v < 32_767) }
     ensures inside { IfErr result (λ e. IsWithin e (length text.now)) }
 {
-    let mut versions = Seq::new(alloc);
+    let mut versions = NumberedVersions::new(alloc);
     let mut rest = text;
     'versions: while !rest.is_empty() {
-        let (version, after) = named_at(alloc, versions.as_slice(), rest)?;
-        versions.push(version)?;
+        let (version, after) = named_at(alloc, &versions, rest)?;
+        versions = versions.with(alloc, version)?;
         rest = after;
     }
-    Ok(versions)
+    Ok(versions.into_versions())
 }

@@ -2,14 +2,17 @@
 
 ghost use Rattle.std.specs.Prelude.{◌≡◌, ◌<◌, List, length, zero, IfSome};
 ghost use Rattle.link_script.specs.declared.named.RawVersion.{RawVersion};
+ghost use Rattle.link_script.specs.declared.rules.Class.TheVariants.{Exact};
 ghost use Rattle.link_script.specs.Filter.{AreVersions};
 ghost use Rattle.link_script.specs.Lookup.{seen, asked};
 ghost use Rattle.link_script.specs.Rank.{IsBest, filters_of, filters_in};
 ghost use Rattle.link_script.specs.Rules.{plain_fits, cxx_fits, side_in, first_in, last_in, best_match};
+ghost use Rattle.link_script.specs.VersionIndex.{IsIndexOf, numbers_with};
 
 use crate::body::Side;
 use crate::lookup::{Demangler, Lookup, look_up};
 use crate::rules::{Class, MatchRules, Version};
+use crate::version_index::VersionIndex;
 
 pub fn plain_fits(rules: &MatchRules, class: Class, name: &Lookup) -> bool
     ensures { result ≡ plain_fits rules.now class (seen name.now) }
@@ -57,59 +60,65 @@ fn side_in(class: Class, version: &Version, name: &Lookup) -> Option<Side>
     None
 }
 
-/// The first version with a match of the class.
-fn first_in(class: Class, versions: &[Version], name: &Lookup) -> Option<(usize, Side)>
-    ensures value { result ≡ first_in class (seen name.now) zero versions.now }
+/// The first version with an exact match.
+fn first_in(versions: &[Version], index: &VersionIndex, name: &Lookup) -> Option<(usize, Side)>
+    requires { IsIndexOf versions.now index.now }
+    ensures value { result ≡ first_in Exact (seen name.now) zero versions.now }
     ensures within { IfSome result (λ x. x.0 < length versions.now) }
 {
-    let mut at = 0;
-    for version in versions {
-        if let Some(side) = side_in(class, version, name) {
-            return Some((at, side));
-        }
-        at += 1;
-    }
-    None
+    let number = usize::from(index.first_exact(name)?);
+    let side = side_in(Class::Exact, &versions[number], name)?;
+    Some((number, side))
 }
 
-/// The last version with a match of the class.
-fn last_in(class: Class, versions: &[Version], name: &Lookup) -> Option<(usize, Side)>
+/// The last version with a match of the class. The numbers are those of the versions that have a pattern of it.
+fn last_in(
+    class: Class,
+    versions: &[Version],
+    numbers: &[u16],
+    name: &Lookup,
+) -> Option<(usize, Side)>
+    requires { numbers.now ≡ numbers_with versions.now class }
     ensures value { result ≡ last_in class (seen name.now) versions.now (length versions.now) }
     ensures within { IfSome result (λ x. x.0 < length versions.now) }
 {
-    let mut n = versions.len();
-    'back: while n > 0 {
-        n -= 1;
-        if let Some(side) = side_in(class, &versions[n], name) {
-            return Some((n, side));
+    let mut left = numbers;
+    'back: while let Some((number, before)) = left.split_last() {
+        let number = usize::from(*number);
+        if let Some(side) = side_in(class, &versions[number], name) {
+            return Some((number, side));
         }
+        left = before;
     }
     None
 }
 
 #[tactic(auto, unfolding(crate::specs::Rules::best_match))]
-fn best_match(versions: &[Version], name: &Lookup) -> Option<(usize, Side)>
+fn best_match(versions: &[Version], index: &VersionIndex, name: &Lookup) -> Option<(usize, Side)>
+    requires { IsIndexOf versions.now index.now }
     ensures value { result ≡ best_match versions.now (seen name.now) }
     ensures within { IfSome result (λ x. x.0 < length versions.now) }
 {
-    if let Some(found) = first_in(Class::Exact, versions, name) {
+    if let Some(found) = first_in(versions, index, name) {
         return Some(found);
     }
-    if let Some(found) = last_in(Class::Nonstar, versions, name) {
+    if let Some(found) = last_in(Class::Nonstar, versions, index.with_nonstar(), name) {
         return Some(found);
     }
-    if let Some(found) = last_in(Class::Star, versions, name) {
+    if let Some(found) = last_in(Class::Star, versions, index.with_star(), name) {
         return Some(found);
     }
-    last_in(Class::Every, versions, name)
+    last_in(Class::Every, versions, index.with_every(), name)
 }
 
 /// The strongest match of a name: its version and section.
 pub fn find_match<D: Demangler>(
     versions: &[Version],
+    index: &VersionIndex,
     name: &[u8],
     demangler: &D,
 ) -> Option<(usize, Side)>
+    requires { IsIndexOf versions.now index.now }
     // No other match comes before it, over all versions and all their filters.
     ensures best { IsBest (filters_of versions.now) (asked (D.demangled demangler.now) name.now) result }
     // The same over the filters of the text that the versions were read from.
@@ -117,5 +126,5 @@ pub fn find_match<D: Demangler>(
     ensures value { result ≡ best_match versions.now (asked (D.demangled demangler.now) name.now) }
     ensures within { IfSome result (λ x. x.0 < length versions.now) }
 {
-    best_match(versions, &look_up(name, demangler))
+    best_match(versions, index, &look_up(name, demangler))
 }

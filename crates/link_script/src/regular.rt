@@ -19,6 +19,7 @@ use crate::named::RawVersion;
 use crate::rank::find_match;
 use crate::rules::{Version, VersionBody};
 use crate::symbol_version::{UndefinedVersion, version_for_symbol};
+use crate::version_index::VersionIndex;
 use link_ids::{Name, Seq};
 use std::alloc::{AllocError, Global};
 use std::marker::Model;
@@ -28,17 +29,19 @@ use std::marker::Model;
 #[derive(Drop)]
 pub struct RegularVersionScript {
     versions: Seq<Version>,
+    index: VersionIndex,
 }
 
 impl Model for RegularVersionScript {
     ghost use Rattle.std.specs.Prelude.{List, ◌<◌, length};
     ghost use Rattle.link_script.specs.declared.rules.Version.{Version};
+    ghost use Rattle.link_script.specs.VersionIndex.{IsIndexOf};
 
     ghost Value = { List Version };
 
     ghost view = { λ s. s.versions };
 
-    ghost invariant = { λ s. length s.versions < 32768 };
+    ghost invariant = { λ s. (length s.versions < 32768) × IsIndexOf s.versions s.index };
 }
 
 /// Whether a match stands in a `local:` section.
@@ -55,7 +58,20 @@ impl RegularVersionScript {
     {
         RegularVersionScript {
             versions: Seq::new(alloc),
+            index: VersionIndex::new(alloc),
         }
+    }
+
+    /// The script of these versions, which the index is made from.
+    fn from_versions(
+        alloc: Global,
+        versions: Seq<Version>,
+    ) -> Result<RegularVersionScript, AllocError>
+        requires { length versions < 32_768 }
+        ensures { IfOk result (λ script. script ≡ versions) }
+    {
+        let index = VersionIndex::of(alloc, versions.as_slice())?;
+        Ok(RegularVersionScript { versions, index })
     }
 
     /// The base version alone, with the patterns of this body.
@@ -75,7 +91,7 @@ impl RegularVersionScript {
         )?;
         let mut versions = Seq::new(alloc);
         versions.push(version)?;
-        Ok(RegularVersionScript { versions })
+        RegularVersionScript::from_versions(alloc, versions)
     }
 
     /// The base version, without patterns, and these, which have the numbers from 1.
@@ -91,7 +107,7 @@ impl RegularVersionScript {
         'named: for raw in named.into_vec() {
             versions.push(Version::from_raw(alloc, raw)?)?;
         }
-        Ok(RegularVersionScript { versions })
+        RegularVersionScript::from_versions(alloc, versions)
     }
 
     /// The versions by number. Wild's iterator over them is a slice here.
@@ -131,7 +147,7 @@ impl RegularVersionScript {
         ensures rust_form { (body : RawVersionBody) → is_rust_form body ≡ true → AreVersions (unnamed body ∷ []) self.now → result ≡ not (has_name (listed_names body.globals) name.now) }
         ensures value { result ≡ is_local_in self.now (asked (D.demangled demangler.now) name.now) }
     {
-        is_local_match(find_match(self.versions.as_slice(), name, demangler))
+        is_local_match(find_match(self.versions.as_slice(), &self.index, name, demangler))
     }
 
     /// The version of a symbol. With an explicit version it is 1 where that is empty, otherwise 1 more than the number
@@ -148,6 +164,12 @@ impl RegularVersionScript {
             IsVersionOf (filters_in raws) (raw_names raws) (asked (D.demangled demangler.now) name.now) (option_map (λ e. e.now) explicit.entry) (answered result) }
         ensures value { answered result ≡ version_of self.now (asked (D.demangled demangler.now) name.now) (option_map (λ e. e.now) explicit.entry) }
     {
-        version_for_symbol(self.versions.as_slice(), name, explicit, demangler)
+        version_for_symbol(
+            self.versions.as_slice(),
+            &self.index,
+            name,
+            explicit,
+            demangler,
+        )
     }
 }

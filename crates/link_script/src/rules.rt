@@ -1,6 +1,6 @@
 //! The patterns of a version, by language and kind, and which names they fit.
 
-ghost use Rattle.std.specs.Prelude.{◌≡◌, ◌↔◌, ◌<◌, ◌≤◌, ◌+◌, [], ◌∷◌, ◌++◌, ℕ, List, Bool, IsTrue, IsOk, IfOk, OnOk, OnErr};
+ghost use Rattle.std.specs.Prelude.{◌≡◌, ◌↔◌, ◌<◌, ◌≤◌, ◌+◌, [], ◌∷◌, ◌++◌, ◌||◌, ℕ, List, Bool, IsTrue, IsOk, IfOk, OnOk, OnErr};
 ghost use Rattle.link_script.specs.declared.matcher.SymbolMatcher.{SymbolMatcher};
 ghost use Rattle.link_script.specs.Room.{is_of, count_of, HasRoom};
 ghost use Rattle.link_script.specs.Lookup.{seen, asked, name_of, text_of};
@@ -10,7 +10,7 @@ ghost use Rattle.std.specs.Option.{option_map};
 ghost use Rattle.link_script.specs.declared.body.Side.{Side};
 ghost use Rattle.link_script.specs.Filter.{Filter, every, HasFilter, SameRules, SameFilters, Adds, AddsAll, AddsEntry, HasEntries, HasBody, IsVersion, of_language};
 ghost use Rattle.link_script.specs.Regular.{base};
-ghost use Rattle.link_script.specs.Rules.{has_glob, exact_fits, glob_fits, rules_fit};
+ghost use Rattle.link_script.specs.Rules.{has_glob, exact_fits, glob_fits, rules_fit, rules_have, version_has};
 
 use crate::body::RawVersionBody;
 use crate::lookup::{Demangler, Lookup, look_up, name_of, text_of};
@@ -231,6 +231,25 @@ impl BasicMatchRules {
     {
         self.matches_all
     }
+
+    /// The names that are listed exactly.
+    pub(crate) fn exact_names(&self) -> &NameSet
+        ensures { result.now ≡ self.now.exact }
+    {
+        &self.exact
+    }
+
+    /// Whether there is a pattern of this class.
+    fn has(&self, class: Class) -> bool
+        ensures { result ≡ rules_have class self.now }
+    {
+        match class {
+            Class::Exact => !self.exact.is_empty(),
+            Class::Nonstar => !self.nonstar_globs.is_empty(),
+            Class::Star => !self.star_globs.is_empty(),
+            Class::Every => self.matches_all,
+        }
+    }
 }
 
 impl MatchRules {
@@ -254,6 +273,13 @@ impl MatchRules {
             ParsedSymbolMatcher::Multiple(matchers) => self.general.push_all(matchers),
             ParsedSymbolMatcher::CxxMatchers(matchers) => self.cxx.push_all(matchers),
         }
+    }
+
+    /// Whether there is a pattern of this class.
+    fn has(&self, class: Class) -> bool
+        ensures { result ≡ (rules_have class self.now.general || rules_have class self.now.cxx) }
+    {
+        self.general.has(class) || self.cxx.has(class)
     }
 
     /// The patterns of these entries.
@@ -295,6 +321,14 @@ impl VersionBody {
 }
 
 impl Version {
+    /// Whether there is a pattern of this class.
+    pub(crate) fn has(&self, class: Class) -> bool
+        ensures { result ≡ version_has class self.now }
+    {
+        let VersionBody { globals, locals } = &self.version_body;
+        globals.has(class) || locals.has(class)
+    }
+
     /// A version without name, parent and patterns. Takes no memory.
     pub fn base(alloc: Global) -> Version
         ensures { IsVersion base result }

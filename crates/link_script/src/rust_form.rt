@@ -13,6 +13,7 @@ use std::alloc::{AllocError, Global};
 /// A script of the Rust form: the names that it lists. Every other name is local. Mirrors Wild's `RustVersionScript`.
 #[derive(Debug, Drop)]
 pub struct RustVersionScript {
+    /// The names, in the order of the text.
     pub global: Seq<Name>,
 }
 

@@ -97,62 +97,77 @@ impl Demangler for Constant {
     }
 }
 
+/// Texts without extern blocks, and what reading each of them answers.
+const FAULTS: [(&[u8], &str); 30] = [
+    (b"", "read"),
+    (b"# only a comment", "read"),
+    (b" \t\r\n/* a */ # b\n", "read"),
+    (b"{ global: foo; local: *; };", "read"),
+    (b"{ global: foo; local: * };", "Syntax error at 26"),
+    (b"{ a; }", "Syntax error at 6"),
+    (b"{ a; }; x", "Syntax error at 8"),
+    (b"{ ; };", "Syntax error at 2"),
+    (b"{ a", "Syntax error at 2"),
+    (b"{", "Syntax error at 1"),
+    (b"{};", "read"),
+    (b"V1 {\r\n\ta;\r\n};\r\n", "read"),
+    (b"V1{a;};V2{b;}V1;", "read"),
+    (b"V1 { a; }", "Syntax error at 9"),
+    (b"V1", "Syntax error at 2"),
+    (b"V1 ;", "Syntax error at 3"),
+    (b"(", "Syntax error at 0"),
+    (b"}", "Syntax error at 0"),
+    (b"V1 { a; } V0;", "Unknown parent version at 10"),
+    (b"V1 { a; } V1;", "Unknown parent version at 10"),
+    (b"V1 { a; }; V2 { b; } V1 ;", "Unknown parent version at 21"),
+    (b"/* open", "Syntax error at 0"),
+    (b"/*/", "Syntax error at 0"),
+    (b"{ a; /* open *", "Syntax error at 5"),
+    (b"V1 /*", "Syntax error at 3"),
+    (b"V1 { a; }; # c\n/* open", "Syntax error at 15"),
+    (b"{ \xff*; };", "Invalid utf-8 string at 2"),
+    (b"{ \xff; };", "read"),
+    (b"{ x; a[; };", "Invalid glob pattern at 5"),
+    (b"{ x; a**; };", "Invalid glob pattern at 5"),
+];
+
+/// Texts with extern blocks, and what reading each of them answers.
+const EXTERN_FAULTS: [(&[u8], &str); 8] = [
+    (b"{ extern \"C\" { foo", "Syntax error at 15"),
+    (b"{ extern \"C\" { /* }; };", "Syntax error at 15"),
+    (b"{ extern \"C\" x", "Syntax error at 13"),
+    (
+        b"{ extern \"C\" { extern \"C++\" { x; }; }; };",
+        "Unexpected extern \"C++\" in parsing at 15",
+    ),
+    (
+        b"{ extern \"C++\" { x; extern \"C\" { y; }; }; };",
+        "Unexpected extern \"C\" in parsing at 20",
+    ),
+    (
+        b"{ extern \"C\" { extern \"Java\" \t{ x; }; }; };",
+        "Unsupported extern \"\"Java\"\" at 15",
+    ),
+    (b"{ extern Java  ", "Unsupported extern \"Java\" at 9"),
+    (
+        b"{ extern \xff{ x; }; };",
+        "Unsupported extern \"INVALID UTF-8([255])\" at 9",
+    ),
+];
+
 #[test]
 fn first_fault_and_its_place(rt: HostRuntime) -> Result<(), Fail> {
     let alloc = rt.alloc();
-    let cases: [(&[u8], &str); 38] = [
-        (b"", "read"),
-        (b"# only a comment", "read"),
-        (b" \t\r\n/* a */ # b\n", "read"),
-        (b"{ global: foo; local: *; };", "read"),
-        (b"{ global: foo; local: * };", "Syntax error at 26"),
-        (b"{ a; }", "Syntax error at 6"),
-        (b"{ a; }; x", "Syntax error at 8"),
-        (b"{ ; };", "Syntax error at 2"),
-        (b"{ a", "Syntax error at 2"),
-        (b"{", "Syntax error at 1"),
-        (b"{};", "read"),
-        (b"V1 {\r\n\ta;\r\n};\r\n", "read"),
-        (b"V1{a;};V2{b;}V1;", "read"),
-        (b"V1 { a; }", "Syntax error at 9"),
-        (b"V1", "Syntax error at 2"),
-        (b"V1 ;", "Syntax error at 3"),
-        (b"(", "Syntax error at 0"),
-        (b"}", "Syntax error at 0"),
-        (b"V1 { a; } V0;", "Unknown parent version at 10"),
-        (b"V1 { a; } V1;", "Unknown parent version at 10"),
-        (b"V1 { a; }; V2 { b; } V1 ;", "Unknown parent version at 21"),
-        (b"/* open", "Syntax error at 0"),
-        (b"/*/", "Syntax error at 0"),
-        (b"{ a; /* open *", "Syntax error at 5"),
-        (b"V1 /*", "Syntax error at 3"),
-        (b"V1 { a; }; # c\n/* open", "Syntax error at 15"),
-        (b"{ \xff*; };", "Invalid utf-8 string at 2"),
-        (b"{ \xff; };", "read"),
-        (b"{ x; a[; };", "Invalid glob pattern at 5"),
-        (b"{ x; a**; };", "Invalid glob pattern at 5"),
-        (b"{ extern \"C\" { foo", "Syntax error at 15"),
-        (b"{ extern \"C\" { /* }; };", "Syntax error at 15"),
-        (b"{ extern \"C\" x", "Syntax error at 13"),
-        (
-            b"{ extern \"C\" { extern \"C++\" { x; }; }; };",
-            "Unexpected extern \"C++\" in parsing at 15",
-        ),
-        (
-            b"{ extern \"C++\" { x; extern \"C\" { y; }; }; };",
-            "Unexpected extern \"C\" in parsing at 20",
-        ),
-        (
-            b"{ extern \"C\" { extern \"Java\" \t{ x; }; }; };",
-            "Unsupported extern \"\"Java\"\" at 15",
-        ),
-        (b"{ extern Java  ", "Unsupported extern \"Java\" at 9"),
-        (
-            b"{ extern \xff{ x; }; };",
-            "Unsupported extern \"INVALID UTF-8([255])\" at 9",
-        ),
-    ];
-    for (text, expected) in cases {
+    for (text, expected) in FAULTS {
+        assert_eq!(rt; outcome(alloc, text)?.as_str(), expected);
+    }
+    Ok(())
+}
+
+#[test]
+fn first_fault_of_extern_blocks(rt: HostRuntime) -> Result<(), Fail> {
+    let alloc = rt.alloc();
+    for (text, expected) in EXTERN_FAULTS {
         assert_eq!(rt; outcome(alloc, text)?.as_str(), expected);
     }
     Ok(())
@@ -181,60 +196,97 @@ fn long_texts(rt: HostRuntime) -> Result<(), Fail> {
     Ok(())
 }
 
+/// So many versions, each of which extends the one in front of it.
+fn chain(alloc: Global, count: u32) -> Result<String, Fail> {
+    let mut text = format!(in alloc; "V0 {{ }};")?;
+    for n in 1..count {
+        text.push_str(format!(in alloc; "V{n} {{ }} V{};", n - 1)?.as_str())?;
+    }
+    Ok(text)
+}
+
 #[test]
-fn versions_of_names(rt: HostRuntime) -> Result<(), Fail> {
+fn many_parents(rt: HostRuntime) -> Result<(), Fail> {
     let alloc = rt.alloc();
-    let cases: [(&[u8], &[u8], Option<u16>); 27] = [
-        (
-            b"VERS_1 { global: foo; local: *; }; VERS_2 { global: f?o; foo; } VERS_1;",
-            b"foo",
-            Some(2),
-        ),
-        (
-            b"VERS_1 { global: foo; local: *; }; VERS_2 { global: f?o; foo; } VERS_1;",
-            b"fzo",
-            Some(3),
-        ),
-        (
-            b"VERS_1 { global: foo; local: *; }; VERS_2 { global: f?o; foo; } VERS_1;",
-            b"other",
-            Some(2),
-        ),
-        (b"# c\nV1 { a; # d\n};\n", b"a", Some(2)),
-        (b"", b"a", None),
-        (b"{ a; };", b"a", None),
-        (b"V1 { b; };", b"a", None),
-        // The first version of an exact name, and the last one of a glob.
-        (b"A { x; }; B { x; };", b"x", Some(2)),
-        (b"A { x?; }; B { x?; };", b"xy", Some(3)),
-        (b"A { x*; }; B { x*; };", b"xy", Some(3)),
-        (b"A { *; }; B { *; };", b"xy", Some(3)),
-        // An exact name before a glob without a star, that before one with a star, and that before a bare star.
-        (b"A { x?; }; B { xy; }; C { x?; };", b"xy", Some(3)),
-        (b"A { x?; }; B { x*; };", b"xy", Some(2)),
-        (b"A { x*; }; B { *; };", b"xy", Some(2)),
-        // Backslashes and quotes.
-        (b"A { x\\*y; };", b"x*y", Some(2)),
-        (b"A { \"x*\"; };", b"x*", Some(2)),
-        (b"A { \"x*\"; };", b"xy", None),
-        (b"A { \"*\"; };", b"xy", None),
-        // A token ends at its `;`, without the blanks in front of it, or at the first `}` of a block.
-        (b"A { x \t; };", b"x", Some(2)),
-        (b"A { x # c\n; };", b"x", None),
-        (b"A { extern \"C\" { x; y }; z; };", b"y", Some(2)),
-        (b"A { extern \"C\" { x; y }; z; };", b"z", Some(2)),
-        (b"A { global: x; local: y; global: z; };", b"z", Some(2)),
-        // Names that are not UTF-8.
-        (b"A { \xff\xfe; };", b"\xff\xfe", Some(2)),
-        (b"A { ?; ??; \xc3\xa9*; };", b"\xff\xfe", None),
-        (b"A { *; };", b"\xff\xfe", Some(2)),
-        (b"A { extern \"C++\" { *; }; };", b"\xff\xfe", Some(2)),
-    ];
-    for (text, name, expected) in cases {
-        let script = script(alloc, text)?;
-        assert!(rt;
-            matches!(script.version_for_symbol(name, None, &Plain), Ok(found) if found == expected)
-        );
+    let text = chain(alloc, 20_000)?;
+    let script = script(alloc, text.as_bytes())?;
+    assert_eq!(rt; script.version_count(), 20_001);
+    assert_eq!(rt; script.parent_count(), 19_999);
+    Ok(())
+}
+
+/// A script, a name and the version that its strongest match gives it.
+const RANKED: [(&[u8], &[u8], Option<u16>); 14] = [
+    (
+        b"VERS_1 { global: foo; local: *; }; VERS_2 { global: f?o; foo; } VERS_1;",
+        b"foo",
+        Some(2),
+    ),
+    (
+        b"VERS_1 { global: foo; local: *; }; VERS_2 { global: f?o; foo; } VERS_1;",
+        b"fzo",
+        Some(3),
+    ),
+    (
+        b"VERS_1 { global: foo; local: *; }; VERS_2 { global: f?o; foo; } VERS_1;",
+        b"other",
+        Some(2),
+    ),
+    (b"# c\nV1 { a; # d\n};\n", b"a", Some(2)),
+    (b"", b"a", None),
+    (b"{ a; };", b"a", None),
+    (b"V1 { b; };", b"a", None),
+    // The first version of an exact name, and the last one of a glob.
+    (b"A { x; }; B { x; };", b"x", Some(2)),
+    (b"A { x?; }; B { x?; };", b"xy", Some(3)),
+    (b"A { x*; }; B { x*; };", b"xy", Some(3)),
+    (b"A { *; }; B { *; };", b"xy", Some(3)),
+    // An exact name before a glob without a star, that before one with a star, and that before a bare star.
+    (b"A { x?; }; B { xy; }; C { x?; };", b"xy", Some(3)),
+    (b"A { x?; }; B { x*; };", b"xy", Some(2)),
+    (b"A { x*; }; B { *; };", b"xy", Some(2)),
+];
+
+/// A script, a name and the version that it has by how its pattern is spelled.
+const SPELLED: [(&[u8], &[u8], Option<u16>); 13] = [
+    // Backslashes and quotes.
+    (b"A { x\\*y; };", b"x*y", Some(2)),
+    (b"A { \"x*\"; };", b"x*", Some(2)),
+    (b"A { \"x*\"; };", b"xy", None),
+    (b"A { \"*\"; };", b"xy", None),
+    // A token ends at its `;`, without the blanks in front of it, or at the first `}` of a block.
+    (b"A { x \t; };", b"x", Some(2)),
+    (b"A { x # c\n; };", b"x", None),
+    (b"A { extern \"C\" { x; y }; z; };", b"y", Some(2)),
+    (b"A { extern \"C\" { x; y }; z; };", b"z", Some(2)),
+    (b"A { global: x; local: y; global: z; };", b"z", Some(2)),
+    // Names that are not UTF-8.
+    (b"A { \xff\xfe; };", b"\xff\xfe", Some(2)),
+    (b"A { ?; ??; \xc3\xa9*; };", b"\xff\xfe", None),
+    (b"A { *; };", b"\xff\xfe", Some(2)),
+    (b"A { extern \"C++\" { *; }; };", b"\xff\xfe", Some(2)),
+];
+
+/// Whether the script of the text gives the name this version.
+fn gives(alloc: Global, text: &[u8], name: &[u8], expected: Option<u16>) -> Result<bool, Fail> {
+    let script = script(alloc, text)?;
+    Ok(matches!(script.version_for_symbol(name, None, &Plain), Ok(found) if found == expected))
+}
+
+#[test]
+fn versions_by_rank(rt: HostRuntime) -> Result<(), Fail> {
+    let alloc = rt.alloc();
+    for (text, name, expected) in RANKED {
+        assert!(rt; gives(alloc, text, name, expected)?);
+    }
+    Ok(())
+}
+
+#[test]
+fn versions_by_spelling(rt: HostRuntime) -> Result<(), Fail> {
+    let alloc = rt.alloc();
+    for (text, name, expected) in SPELLED {
+        assert!(rt; gives(alloc, text, name, expected)?);
     }
     Ok(())
 }
@@ -365,5 +417,97 @@ fn entries_at_a_place(rt: HostRuntime) -> Result<(), Fail> {
             }))
         )
     );
+    Ok(())
+}
+
+/// Blocks whose comments hold `};`, a name and the version that it has.
+const COMMENTED: [(&[u8], &[u8], Option<u16>); 13] = [
+    // Between two tokens.
+    (b"A { extern \"C\" { a; /* }; */ b; c }; };", b"a", Some(2)),
+    (b"A { extern \"C\" { a; /* }; */ b; c }; };", b"b", Some(2)),
+    (b"A { extern \"C\" { a; /* }; */ b; c }; };", b"c", Some(2)),
+    (b"A { extern \"C\" { a; /* }; */ b; c }; };", b"b; c", None),
+    (b"A { extern \"C\" { a; # };\n b; c }; d; };", b"b", Some(2)),
+    (b"A { extern \"C\" { a; # };\n b; c }; d; };", b"d", Some(2)),
+    // In front of the last token, which has no `;`.
+    (b"A { extern \"C\" { a; /* }; */ b }; c; };", b"b", Some(2)),
+    (b"A { extern \"C\" { a; /* }; */ b }; c; };", b"c", Some(2)),
+    // In front of the block's end.
+    (b"A { extern \"C\" { a; b; /* }; */ }; c; };", b"b", Some(2)),
+    (b"A { extern \"C\" { a; b; /* }; */ }; c; };", b"c", Some(2)),
+    // Behind a token's first byte no comment begins, so the block ends in this one.
+    (b"A { extern \"C\" { b /* }; */ }; c; };", b"b", None),
+    (b"A { extern \"C\" { b /* }; */ }; c; };", b"b /x", Some(2)),
+    (b"A { extern \"C\" { b /* }; */ }; c; };", b"x/ }", Some(2)),
+];
+
+/// Blocks that have no `};` but those in their comments, and the fault of each.
+const UNCLOSED: [(&[u8], &str); 3] = [
+    (b"{ extern \"C\" { a; /* }; */ b; c", "Syntax error at 27"),
+    (b"{ extern \"C\" { a; /* }; */ b; c }", "Syntax error at 27"),
+    (
+        b"{ extern \"C\" { a; /* }; */ b; # };",
+        "Syntax error at 34",
+    ),
+];
+
+#[test]
+fn comments_of_extern_blocks(rt: HostRuntime) -> Result<(), Fail> {
+    let alloc = rt.alloc();
+    for (text, name, expected) in COMMENTED {
+        assert!(rt; gives(alloc, text, name, expected)?);
+    }
+    for (text, expected) in UNCLOSED {
+        assert_eq!(rt; outcome(alloc, text)?.as_str(), expected);
+    }
+    Ok(())
+}
+
+#[test]
+fn a_long_extern_block(rt: HostRuntime) -> Result<(), Fail> {
+    let alloc = rt.alloc();
+    let mut text = repeated(alloc, b"extern \"C++\" {", b" a_name_of_20_bytes;", 20_000)?;
+    text.extend_from_slice(b" };")?;
+    let (block, behind) = entry(alloc, text.as_slice(), 0)?;
+    assert_eq!(rt; cxx_count(&block), Some(20_000));
+    assert_eq!(rt; behind, text.len());
+    Ok(())
+}
+
+#[test]
+fn many_versions(rt: HostRuntime) -> Result<(), Fail> {
+    let alloc = rt.alloc();
+    let mut text = Vec::new(alloc);
+    for i in 0..2_000 {
+        let version = format!(in alloc; "V{i} {{ global: n{i}; n; p{i}_*; local: m; }};\n")?;
+        text.extend_from_slice(version.as_bytes())?;
+    }
+    text.extend_from_slice(b"Last { local: *; };\n")?;
+    let script = script(alloc, text.as_slice())?;
+    assert_eq!(rt; script.version_count(), 2_002);
+    let cases: [(&[u8], Option<u16>); 7] = [
+        (b"n", Some(2)),
+        (b"n0", Some(2)),
+        (b"n1234", Some(1_236)),
+        (b"p77_x", Some(79)),
+        (b"p1999_", Some(2_001)),
+        (b"m", Some(2)),
+        (b"other", Some(2_002)),
+    ];
+    for (name, expected) in cases {
+        assert!(rt;
+            matches!(script.version_for_symbol(name, None, &Plain), Ok(found) if found == expected)
+        );
+    }
+    assert!(rt; !is_local(&script, b"n"));
+    assert!(rt; is_local(&script, b"m"));
+    assert!(rt; is_local(&script, b"other"));
+    assert!(rt;
+        matches!(
+            script.version_for_symbol(b"n", Some(b"V1999".as_slice()), &Plain),
+            Ok(Some(2_001))
+        )
+    );
+    assert!(rt; is_refused(&script, b"n", b"V2000"));
     Ok(())
 }

@@ -14,7 +14,8 @@ use Rattle.link_rules.specs.declared.refusal.LinkError.TheVariants.{NoInputs, Du
 use Rattle.link_rules.specs.Places.{Bytes, each_from, some_from}
 use Rattle.link_rules.specs.Plain.World.{symbols_of}
 use Rattle.link_rules.specs.Plain.Loading.{IsLoaded}
-use Rattle.link_rules.specs.Refusals.{limit_cause, object_limit, section_count}
+use Rattle.link_rules.specs.Refusals.{limit_cause, section_count}
+use Rattle.link_input.specs.Limits.{object_limit, id_limit}
 use Rattle.link_rules.specs.Sorting.{IsSortedTexts}
 use Rattle.link_rules.specs.Plain.Rivals.{duplicates}
 use Rattle.link_rules.specs.Plain.Undefined.{is_canonical}
@@ -50,8 +51,8 @@ answer_of symbols marks objects = record {
 abbrev pub limit_refusal : List ObjectFile → Option LinkError
 limit_refusal objects =
     option_or (limit_cause Objects object_limit (length objects))
-    (option_or (limit_cause Sections (2 ^ 32 - 1) (section_count objects))
-    (limit_cause Symbols (2 ^ 32 - 1) (length (symbols_of objects))))
+    (option_or (limit_cause Sections id_limit (section_count objects))
+    (limit_cause Symbols id_limit (length (symbols_of objects))))
 
 -- the first cause that stands before anything is loaded
 abbrev pub early_refusal : List ObjectFile → Option LinkError

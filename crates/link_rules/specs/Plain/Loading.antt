@@ -3,9 +3,8 @@
 use Rattle.std.specs.Prelude.{◌≡◌, ◌≢◌, ℕ, List, length, Bool, true, false, Option, Some, None, if◌then◌else◌, slice_get, option_and_then}
 use Rattle.std.specs.Option.{option_map_or}
 use Rattle.link_closure.specs.Closure.{IsLeastClosed, is_marked}
-use Rattle.link_input.specs.ObjectFile.{ObjectFile}
+use Rattle.link_input.specs.ObjectFile.{ObjectFile, is_optional}
 use Rattle.link_rules.specs.declared.symbol.Symbol.{Symbol}
-use Rattle.link_rules.specs.World.{is_optional}
 use Rattle.link_rules.specs.Plain.World.{symbols_of, is_reference}
 use Rattle.link_rules.specs.Plain.Lists.{first_definition}
 

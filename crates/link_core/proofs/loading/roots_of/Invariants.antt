@@ -1,5 +1,5 @@
 use Rattle.std.proofs.Common.{◌≡◌, not, map, take}
-use Rattle.link_rules.specs.World.{is_optional}
+use Rattle.link_input.specs.ObjectFile.{is_optional}
 use Rattle.link_core.proofs.loading.roots_of.Given as goal
 
 abbrev pub invariant-loop-object : goal.invariant-loop-object

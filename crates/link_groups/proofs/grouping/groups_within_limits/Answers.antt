@@ -92,4 +92,4 @@ returns-clause-groups g c =
 
 pub returns-clause-asked : goal.returns-clause-asked
 returns-clause-asked g c =
-    all-asked c.args.options.now c.args.inputs c.args.workers c.push_stubs.new.groups.items (returns-clause-files g c) (returns-clause-groups g c) c.requires.limits.symbols
+    all-asked c.args.options.now c.args.inputs c.args.workers c.push_stubs.new.groups.items (returns-clause-files g c) (returns-clause-groups g c) (omega (arith, c.requires.limits.symbols))

@@ -22,4 +22,5 @@ turns-preserved c =
       reads = rw c.in_ok-push.ensures.ok
           (sym (grow_step (alone block_turn) c.turns.matchers c.turns.rest.now c.in_ok-matcher.after.now c.in-Some.matcher (rw c.in-Some.is at c.in_ok-matcher.ensures.gives) (less refl)) ∙ c.turns.invariant.reads);
       shorter = omega (arith, c.in_ok-matcher.ensures.no_longer);
+      kept = (rw c.in-Some.is at c.in_ok-matcher.ensures.kept) refl;
     }
