@@ -1,17 +1,18 @@
 -- What a seat's place shows of the words that its calls name, and what the steps of a call come to.
 use Rattle.std.proofs.lemmas.Nat.{or_lt, le_or_l}
-use Rattle.link_claim.specs.declared.state.Mark.{Mark}
-use Rattle.link_claim.specs.declared.state.Item.{Item}
-use Rattle.link_claim.proofs.Joins.{contains_here, contains_later}
+use Rattle.link_closure.specs.declared.workload.Mark.{Mark}
+use Rattle.link_closure.specs.declared.workload.Item.{Item}
+use Rattle.link_closure.proofs.Joins.{contains_here, contains_later}
 use Rattle.std.proofs.Common.{Bool, true, false, refl, Some, cond, ⊎_elim, ◌≡◌, ℕ, ◌+◌, ◌^◌, ◌<◌, List, [], ◌∷◌, sym, subst, arith, zero, suc, get_or, length, eq-eqb}
 use Rattle.std.specs.Prelude.{◌==◌, MatchBool, Contains, IsTrue, slice_get}
 use mathlib.Core.Option.{some, some-injective, some-ne-none}
 use lib.ListN.{get_elem?}
 use Rattle.atomic_table.specs.Seated.{TableId}
 use Rattle.atomic_table.specs.Table.{Final, Seen}
-use Rattle.link_claim.specs.declared.state.Workload.{Workload}
+use Rattle.link_closure.specs.declared.workload.Workload.{Workload}
 use Rattle.link_claim.specs.declared.view.View.{View}
-use Rattle.link_claim.specs.Workload.{Requests, FitsU32, flag_base, bits_for, item_bits, marked}
+use Rattle.link_closure.specs.Workload.{Requests, bits_for, item_bits, marked}
+use Rattle.link_claim.specs.Workload.{FitsU32, flag_base}
 use Rattle.link_claim.specs.Rule.{Holds}
 use Rattle.link_claim.specs.Views.{MayRequest, MayBegin, Shows}
 use Rattle.link_claim.specs.Seats.{IsPlaced, IsEnding}

@@ -9,17 +9,17 @@ use Rattle.std.proofs.lemmas.Bool.Decides.{nat_tests}
 use Rattle.std.specs.Int.Bits.{or_zero_l, or_zero_r}
 use Rattle.std.proofs.lemmas.Nat.{or_comm}
 use Rattle.link_closure.specs.Closure.{IsLeastClosed, is_marked}
-use Rattle.link_claim.specs.declared.state.Mark.{Mark}
-use Rattle.link_claim.specs.declared.state.Item.{Item}
-use Rattle.link_claim.specs.declared.state.Workload.{Workload}
+use Rattle.link_closure.specs.declared.workload.Mark.{Mark}
+use Rattle.link_closure.specs.declared.workload.Item.{Item}
+use Rattle.link_closure.specs.declared.workload.Workload.{Workload}
 use Rattle.link_claim.specs.declared.state.Core.{Core}
 use Rattle.link_claim.specs.declared.state.Claimed.{Claimed}
 use Rattle.link_claim.specs.declared.state.Begun.{Begun}
 use Rattle.link_claim.specs.declared.state.Step.{Step}
 use Rattle.link_claim.specs.declared.state.Step.TheVariants.{Claim, Begin, Mark as MarkStep, Read}
-use Rattle.link_claim.specs.Workload.{HasItem, Requests, Marks, IsRoot, HasEdge, IsSound, IsInEachClosed, bits_for, item_bits, marked}
+use Rattle.link_closure.specs.Workload.{HasItem, Requests, Marks, IsRoot, HasEdge, IsSound, IsInEachClosed, bits_for, item_bits, marked}
 use Rattle.link_claim.specs.Steps.{start, is_claimed, is_begun, marks_of, legal, state_after, after, AllLegal, IsReached, IsAllRead}
-use Rattle.link_claim.proofs.Joins.{or_assoc, within_trans, within_left, within_right, within_both, within_same, contains_cases, contains_none, bits_has, bits_within, item_has, item_within}
+use Rattle.link_closure.proofs.Joins.{or_assoc, within_trans, within_left, within_right, within_both, within_same, contains_cases, contains_none, bits_has, bits_within, item_has, item_within}
 
 -- what holds of every state that legal steps lead to
 pub record Kept (w : Workload) (c : Core) : Type 0 where

@@ -2,12 +2,12 @@
 use Rattle.std.proofs.Common.{◌≡◌, ℕ, Bool, true, false, Contains, sym, refl, ◌∙◌, subst}
 use Rattle.std.specs.Prelude.{MatchBool}
 use Rattle.std.specs.Bool.{OnTrue}
-use Rattle.link_claim.specs.declared.state.Mark.{Mark}
+use Rattle.link_closure.specs.declared.workload.Mark.{Mark}
 use Rattle.link_claim.specs.declared.view.View.{View}
 use Rattle.link_claim.specs.Views.{with_file, with_claim, with_item, with_begin, with_mark, joined}
 use Rattle.link_claim.specs.Later.{IsLater, HasRead}
-use Rattle.link_claim.specs.Workload.{Requests, Marks}
-use Rattle.link_claim.proofs.Joins.{contains_here, contains_later, contains_left, contains_right}
+use Rattle.link_closure.specs.Workload.{Requests, Marks}
+use Rattle.link_closure.proofs.Joins.{contains_here, contains_later, contains_left, contains_right}
 
 -- a view is no earlier than itself
 pub later_self : (v : View) → IsLater v v

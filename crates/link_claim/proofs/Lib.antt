@@ -1,4 +1,3 @@
-pub mod Joins
 pub mod Kept
 pub mod Runs
 pub mod Views

@@ -11,15 +11,16 @@ use Rattle.std.proofs.lemmas.List.{set-get_or, length-replicate, get_or_append_l
 use Rattle.std.proofs.lemmas.Bool.Decides.{nat_tests}
 use Rattle.atomic_table.specs.Table.{step, keeps, stepped, Allows, Splits, Joins, opening}
 use Rattle.atomic_table.proofs.Lists.{at_set, at_snoc, set_again}
-use Rattle.link_claim.specs.declared.state.Mark.{Mark}
-use Rattle.link_claim.specs.declared.state.Item.{Item}
-use Rattle.link_claim.specs.declared.state.Workload.{Workload}
+use Rattle.link_closure.specs.declared.workload.Mark.{Mark}
+use Rattle.link_closure.specs.declared.workload.Item.{Item}
+use Rattle.link_closure.specs.declared.workload.Workload.{Workload}
 use Rattle.link_claim.specs.declared.view.View.{View}
-use Rattle.link_claim.specs.Workload.{HasItem, Requests, Marks, IsRoot, IsSound, IsInEachClosed, bits_for, IsWithin, begin_base, flag_base, word_count, item_bits, marked, opening_words_of}
+use Rattle.link_closure.specs.Workload.{HasItem, Requests, Marks, IsRoot, IsSound, IsInEachClosed, bits_for, item_bits, marked, IsWithin}
+use Rattle.link_claim.specs.Workload.{begin_base, flag_base, word_count, opening_words_of}
 use Rattle.link_claim.specs.Rule.{Sharing, times, total, all_bits, Counts, Fits, Holds}
 use Rattle.link_claim.specs.Steps.{start}
 use Rattle.link_claim.specs.Views.{Seated, with_file, with_claim, with_item, with_begin, with_mark, fresh, joined, spent_view, first_view, MayRequest, MayBegin, MayMark, saw_claim, took_claim, checked, took_begin, Shows, read_flags, saw_mark, joined_mark}
-use Rattle.link_claim.proofs.Joins.{or_assoc, within_trans, within_left, within_right, within_both, bits_has, bits_within, item_has, contains_none, contains_left, contains_right, contains_append, contains_here, contains_later, contains_cases, either_way}
+use Rattle.link_closure.proofs.Joins.{or_assoc, within_trans, within_left, within_right, within_both, bits_has, bits_within, item_has, contains_none, contains_left, contains_right, contains_append, contains_here, contains_later, contains_cases, either_way}
 use Rattle.link_claim.proofs.Runs.{run_of, run_still, run_claim, run_begin, run_mark}
 use Rattle.link_claim.proofs.Kept.{same_item, item_index, bits_other, unmarked}
 use Rattle.link_claim.proofs.Views.{times_some, total_some, all_bits_has, all_bits_within, all_bits_snoc, all_bits_joined, total_snoc, total_joined, times_append, all_bits_set, all_bits_same, counts_same, counts_won, grows_one, grows_above, fits_grown, fits_set}

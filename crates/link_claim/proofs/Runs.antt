@@ -4,14 +4,15 @@ use native.Mathlib.Decide.{ℕ_discrete}
 use Rattle.std.proofs.Common.{◌⊎◌, inl, inr, ⊎_elim, ◌≡◌, ◌≢◌, ℕ, ◌+◌, ◌<◌, List, [], ◌∷◌, ◌++◌, Bool, true, false, sym, refl, ap, ◌∙◌, subst, arith, bit_or, length, get_or, set, cond, get_or-set_same, get_or-set_other}
 use Rattle.std.specs.Prelude.{◌==◌, Contains, IsTrue}
 use Rattle.link_closure.specs.Closure.{is_marked}
-use Rattle.link_claim.specs.declared.state.Mark.{Mark}
-use Rattle.link_claim.specs.declared.state.Item.{Item}
-use Rattle.link_claim.specs.declared.state.Workload.{Workload}
+use Rattle.link_closure.specs.declared.workload.Mark.{Mark}
+use Rattle.link_closure.specs.declared.workload.Item.{Item}
+use Rattle.link_closure.specs.declared.workload.Workload.{Workload}
 use Rattle.link_claim.specs.declared.state.Core.{Core}
 use Rattle.link_claim.specs.declared.state.Step.{Step}
 use Rattle.link_claim.specs.declared.state.Step.TheVariants.{Claim, Begin, Mark as MarkStep}
 use Rattle.link_claim.specs.declared.view.View.{View}
-use Rattle.link_claim.specs.Workload.{HasItem, Requests, Marks, IsRoot, IsSound, bits_for, begin_base, flag_base}
+use Rattle.link_closure.specs.Workload.{HasItem, Requests, Marks, IsRoot, IsSound, bits_for}
+use Rattle.link_claim.specs.Workload.{begin_base, flag_base}
 use Rattle.link_claim.specs.Steps.{start, is_claimed, is_begun, marks_of, legal, state_after, after, AllLegal, IsReached}
 use Rattle.link_claim.specs.Rule.{Counts, AreWordsOf, IsRun, all_bits}
 use Rattle.link_claim.proofs.Kept.{kept_reached, item_index, bit_now}

@@ -1,21 +1,22 @@
 -- Once a view has read all, the words are settled, whatever other views there are.
 use Rattle.std.proofs.Common.{◌⊎◌, inl, inr, ⊎_elim, eq-eqb, true≢false, zero, suc, ◌≡◌, ℕ, ◌+◌, ◌<◌, ◌≤◌, List, [], ◌∷◌, ◌||◌, Bool, true, false, sym, refl, ap, ◌∙◌, subst, arith, bit_or, length, get_or, map, take, drop}
-use Rattle.std.specs.Prelude.{◌↔◌, ◌==◌, Contains, IsTrue}
+use Rattle.std.specs.Prelude.{◌==◌, Contains, IsTrue}
 use Rattle.std.specs.List.{list_any}
 use Rattle.std.proofs.lemmas.Bool.Decides.{nat_tests}
 use Rattle.std.proofs.lemmas.Grind.{get_or_after_one}
 use Rattle.std.proofs.lemmas.List.{get_or-map, get_or-take, get_or_past, length-map, length-take, length-drop}
 use Rattle.link_closure.proofs.Least.{one-least}
 use Rattle.link_closure.specs.Closure.{IsClosed, IsLeastClosed, is_marked}
-use Rattle.link_claim.specs.declared.state.Mark.{Mark}
-use Rattle.link_claim.specs.declared.state.Item.{Item}
-use Rattle.link_claim.specs.declared.state.Workload.{Workload}
+use Rattle.link_closure.specs.declared.workload.Mark.{Mark}
+use Rattle.link_closure.specs.declared.workload.Item.{Item}
+use Rattle.link_closure.specs.declared.workload.Workload.{Workload}
 use Rattle.link_claim.specs.declared.view.View.{View}
-use Rattle.link_claim.specs.Workload.{Marks, IsRoot, HasEdge, bits_for, item_bits, marked, IsWithin, flag_base}
+use Rattle.link_closure.specs.Workload.{Marks, IsRoot, HasEdge, bits_for, item_bits, marked, IsWithin}
+use Rattle.link_claim.specs.Workload.{flag_base}
 use Rattle.link_claim.specs.Rule.{all_bits}
 use Rattle.link_claim.specs.Later.{HasReadAll}
 use Rattle.link_claim.specs.Seats.{Ending, IsEnding, IsSettled, claimed_in, flags_in}
-use Rattle.link_claim.proofs.Joins.{within_trans, within_left, within_right, within_both, within_same, bits_has, bits_within, item_has, item_within, contains_here, contains_later, contains_cases}
+use Rattle.link_closure.proofs.Joins.{within_trans, within_left, within_right, within_both, within_same, bits_has, bits_within, item_has, item_within, contains_here, contains_later, contains_cases}
 use Rattle.link_claim.proofs.Kept.{same_item}
 use Rattle.link_claim.proofs.Views.{all_bits_has, all_bits_within}
 use Rattle.link_claim.proofs.Moves.{claimed_needed}
@@ -153,15 +154,6 @@ module _ (words : List ℕ) (v : View) (end : IsEnding words v) (all : HasReadAl
     known = λ f. (known_mark f, mark_known f);
     flags = flags_marked;
   }
-
--- the least closed set is that of any roots and edges which are the same
-pub least_of_same : (Root Root' : ℕ → Type 0) (Leads Leads' : ℕ → ℕ → Type 0) (count : ℕ) (marks : List Bool)
-    → ((f : ℕ) → Root f ↔ Root' f) → ((f g : ℕ) → Leads f g ↔ Leads' f g) → IsLeastClosed Root Leads count marks → IsLeastClosed Root' Leads' count marks
-least_of_same Root Root' Leads Leads' count marks roots edges least = record {
-  each = least.each;
-  closed = ((λ f root. least.closed.0 f ((roots f).1 root)), λ f g held leads. least.closed.1 f g held ((edges f g).1 leads));
-  least = λ other closed f held. least.least other ((λ g root. closed.0 g ((roots g).0 root)), λ g k has leads. closed.1 g k has ((edges g k).0 leads)) f held;
-}
 
 -- two endings of one work have the same claimed files
 pub same_claimed : (a b : Ending) → a.view.work ≡ b.view.work → IsSettled a → IsSettled b → claimed_in a ≡ claimed_in b

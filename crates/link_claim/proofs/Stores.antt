@@ -4,15 +4,16 @@ use lib.ListN.{get_elem?}
 use Rattle.std.proofs.Common.{inl, inr, ⊎_elim, eq-eqb, ◌≡◌, ℕ, ◌+◌, ◌<◌, ◌≤◌, ◌^◌, List, [], ◌∷◌, sym, refl, ap, ◌∙◌, subst, arith, bit_or, length, get_or, set, cond, get_or-set_same, get_or-set_other}
 use Rattle.std.specs.Prelude.{Contains}
 use Rattle.atomic_table.specs.Table.{opening, stepped, keeps}
-use Rattle.link_claim.specs.declared.state.Mark.{Mark}
-use Rattle.link_claim.specs.declared.state.Item.{Item}
-use Rattle.link_claim.specs.declared.state.Workload.{Workload}
+use Rattle.link_closure.specs.declared.workload.Mark.{Mark}
+use Rattle.link_closure.specs.declared.workload.Item.{Item}
+use Rattle.link_closure.specs.declared.workload.Workload.{Workload}
 use Rattle.link_claim.specs.declared.view.View.{View}
-use Rattle.link_claim.specs.Workload.{HasItem, Marks, IsRoot, IsSound, FitsU32, IsWithin, bits_for, begin_base, flag_base, opening_words_of}
+use Rattle.link_closure.specs.Workload.{HasItem, Marks, IsRoot, IsSound, bits_for, IsWithin}
+use Rattle.link_claim.specs.Workload.{FitsU32, begin_base, flag_base, opening_words_of}
 use Rattle.link_claim.specs.Views.{Seated, first_view, fresh, with_claim, with_begin, with_mark, MayRequest}
 use Rattle.link_claim.specs.Rule.{Sharing, times, all_bits, Holds}
 use Rattle.link_claim.specs.Stores.{MayStore}
-use Rattle.link_claim.proofs.Joins.{contains_here, within_zero, within_trans, within_left, within_right, within_both, bits_has, bits_within}
+use Rattle.link_closure.proofs.Joins.{contains_here, within_zero, within_trans, within_left, within_right, within_both, bits_has, bits_within}
 use Rattle.link_claim.proofs.Kept.{item_index}
 use Rattle.link_claim.proofs.Views.{all_bits_has}
 use Rattle.link_claim.proofs.Moves.{opens_as, splits, requested, won_claim, won_begin, won_mark, shown}

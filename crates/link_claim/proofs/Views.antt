@@ -8,12 +8,13 @@ use Rattle.std.specs.Prelude.{◌==◌}
 use Rattle.std.specs.Int.Bits.{or_zero_l, or_zero_r}
 use Rattle.std.proofs.lemmas.Nat.{or_comm}
 use Rattle.atomic_table.proofs.Lists.{at_set, set_here, set_else}
-use Rattle.link_claim.specs.declared.state.Mark.{Mark}
-use Rattle.link_claim.specs.declared.state.Workload.{Workload}
+use Rattle.link_closure.specs.declared.workload.Mark.{Mark}
+use Rattle.link_closure.specs.declared.workload.Workload.{Workload}
 use Rattle.link_claim.specs.declared.view.View.{View}
-use Rattle.link_claim.specs.Workload.{bits_for, IsWithin, begin_base, flag_base}
+use Rattle.link_closure.specs.Workload.{bits_for, IsWithin}
+use Rattle.link_claim.specs.Workload.{begin_base, flag_base}
 use Rattle.link_claim.specs.Rule.{times, total, all_bits, Counts, Fits}
-use Rattle.link_claim.proofs.Joins.{contains_here, contains_later, or_assoc, within_zero, within_trans, within_left, within_right, within_both, within_same}
+use Rattle.link_closure.proofs.Joins.{contains_here, contains_later, or_assoc, within_zero, within_trans, within_left, within_right, within_both, within_same}
 use Rattle.link_claim.proofs.Kept.{item_index}
 
 -- a view has an index below the number of views

@@ -6,13 +6,14 @@ use Rattle.std.proofs.lemmas.Bool.Decides.{nat_tests}
 use Rattle.std.proofs.lemmas.List.Elements.{All-contains}
 use Rattle.std.proofs.lemmas.List.Sums.{AllPass-from_list_all}
 use Rattle.std.proofs.lemmas.List.FromFn.{get_or-range_with_len}
-use Rattle.link_claim.specs.declared.state.Mark.{Mark}
-use Rattle.link_claim.specs.declared.state.Item.{Item}
-use Rattle.link_claim.specs.declared.state.Workload.{Workload}
+use Rattle.link_closure.specs.declared.workload.Mark.{Mark}
+use Rattle.link_closure.specs.declared.workload.Item.{Item}
+use Rattle.link_closure.specs.declared.workload.Workload.{Workload}
 use Rattle.link_claim.specs.declared.state.Core.{Core}
 use Rattle.link_claim.specs.declared.state.Step.{Step}
 use Rattle.link_claim.specs.declared.state.Step.TheVariants.{Claim, Begin, Mark as MarkStep, Read}
-use Rattle.link_claim.specs.Workload.{HasItem, IsRoot, IsSound, FitsU32}
+use Rattle.link_closure.specs.Workload.{HasItem, IsRoot, IsSound}
+use Rattle.link_claim.specs.Workload.{FitsU32}
 
 -- a mark of these bits for the symbol x
 abbrev pub mark : ℕ → ℕ → Mark

@@ -1,9 +1,9 @@
 -- Views that only grow, and what has been read in a view.
 use Rattle.std.specs.Prelude.{◌≡◌, ℕ, Contains}
-use Rattle.link_claim.specs.declared.state.Mark.{Mark}
-use Rattle.link_claim.specs.declared.state.Item.{Item}
+use Rattle.link_closure.specs.declared.workload.Mark.{Mark}
+use Rattle.link_closure.specs.declared.workload.Item.{Item}
 use Rattle.link_claim.specs.declared.view.View.{View}
-use Rattle.link_claim.specs.Workload.{HasItem, Requests, Marks, IsRoot}
+use Rattle.link_closure.specs.Workload.{HasItem, Requests, Marks, IsRoot}
 
 -- the later view names the same work, and knows and lists all that the earlier one did
 pub record IsLater (v later : View) : Type 0 where

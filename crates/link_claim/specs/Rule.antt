@@ -3,14 +3,15 @@ use Rattle.std.specs.Prelude.{◌≡◌, ℕ, ◌+◌, ◌<◌, ◌≤◌, ◌==
 use mathlib.Core.Option.{some}
 use lib.ListN.{get_elem?}
 use Rattle.atomic_table.specs.Table.{State}
-use Rattle.link_claim.specs.declared.state.Mark.{Mark}
-use Rattle.link_claim.specs.declared.state.Item.{Item}
-use Rattle.link_claim.specs.declared.state.Workload.{Workload}
+use Rattle.link_closure.specs.declared.workload.Mark.{Mark}
+use Rattle.link_closure.specs.declared.workload.Item.{Item}
+use Rattle.link_closure.specs.declared.workload.Workload.{Workload}
 use Rattle.link_claim.specs.declared.state.Core.{Core}
 use Rattle.link_claim.specs.declared.state.Claimed.{Claimed}
 use Rattle.link_claim.specs.declared.state.Begun.{Begun}
 use Rattle.link_claim.specs.declared.view.View.{View}
-use Rattle.link_claim.specs.Workload.{IsSound, HasItem, Marks, IsInEachClosed, bits_for, begin_base, flag_base, word_count}
+use Rattle.link_closure.specs.Workload.{IsSound, HasItem, Marks, IsInEachClosed, bits_for}
+use Rattle.link_claim.specs.Workload.{begin_base, flag_base, word_count}
 use Rattle.link_claim.specs.Steps.{IsReached, is_claimed, is_begun, marks_of}
 use Rattle.link_claim.specs.Views.{spent_view}
 

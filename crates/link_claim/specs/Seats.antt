@@ -6,9 +6,10 @@ use lib.ListN.{get_elem?}
 use Rattle.atomic_table.specs.Seated.{TableId}
 use Rattle.link_closure.specs.Closure.{IsLeastClosed, is_marked}
 use Rattle.link_ids.specs.declared.value_flags.ValueFlags.{ValueFlags}
-use Rattle.link_claim.specs.declared.state.Mark.{Mark}
+use Rattle.link_closure.specs.declared.workload.Mark.{Mark}
 use Rattle.link_claim.specs.declared.view.View.{View}
-use Rattle.link_claim.specs.Workload.{IsRoot, HasEdge, IsSound, FitsU32, marked, flag_base, word_count}
+use Rattle.link_closure.specs.Workload.{IsRoot, HasEdge, IsSound, marked}
+use Rattle.link_claim.specs.Workload.{FitsU32, flag_base, word_count}
 use Rattle.link_claim.specs.Rule.{Sharing, Holds}
 
 -- a seat: which words it is of, and what it knows and has done

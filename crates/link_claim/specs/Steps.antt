@@ -1,14 +1,14 @@
 -- The steps of any number of workers: which are legal, and what each changes.
 use Rattle.std.specs.Prelude.{◌≡◌, ℕ, if◌then◌else◌, Bool, true, false, IsTrue, ◌⊎◌, List, [], ◌∷◌, map, length, replicate, bit_or, slice_index, slice_set, Contains}
 use Rattle.link_closure.specs.Closure.{is_marked}
-use Rattle.link_claim.specs.declared.state.Mark.{Mark}
-use Rattle.link_claim.specs.declared.state.Item.{Item}
-use Rattle.link_claim.specs.declared.state.Workload.{Workload}
+use Rattle.link_closure.specs.declared.workload.Mark.{Mark}
+use Rattle.link_closure.specs.declared.workload.Item.{Item}
+use Rattle.link_closure.specs.declared.workload.Workload.{Workload}
 use Rattle.link_claim.specs.declared.state.Core.{Core}
 use Rattle.link_claim.specs.declared.state.Marked.{Marked}
 use Rattle.link_claim.specs.declared.state.Step.{Step}
 use Rattle.link_claim.specs.declared.state.Step.TheVariants.{Claim, Begin, Mark as MarkStep, Read}
-use Rattle.link_claim.specs.Workload.{HasItem, Requests, Marks, IsRoot}
+use Rattle.link_closure.specs.Workload.{HasItem, Requests, Marks, IsRoot}
 
 -- no bit is set, and the flags are the opening ones
 abbrev pub start : Workload → Core

@@ -1,7 +1,7 @@
 -- A plain store in the place of a swap or of a `fetch_or`.
 use Rattle.std.specs.Prelude.{ℕ, []}
 use Rattle.atomic_table.specs.Table.{Allows}
-use Rattle.link_claim.specs.declared.state.Workload.{Workload}
+use Rattle.link_closure.specs.declared.workload.Workload.{Workload}
 use Rattle.link_claim.specs.declared.view.View.{View}
 use Rattle.link_claim.specs.Views.{first_view}
 use Rattle.link_claim.specs.Rule.{Holds}

@@ -1,11 +1,12 @@
 -- What a view becomes, what a step needs of it, and what a step tells it.
 use Rattle.std.specs.Prelude.{◌≡◌, ℕ, ◌-◌, ◌==◌, true, false, MatchBool, ◌⊎◌, [], ◌∷◌, ◌++◌, bit_or, slice_index, Contains}
 use Rattle.atomic_table.specs.Table.{Me, Step}
-use Rattle.link_claim.specs.declared.state.Mark.{Mark}
-use Rattle.link_claim.specs.declared.state.Item.{Item}
-use Rattle.link_claim.specs.declared.state.Workload.{Workload}
+use Rattle.link_closure.specs.declared.workload.Mark.{Mark}
+use Rattle.link_closure.specs.declared.workload.Item.{Item}
+use Rattle.link_closure.specs.declared.workload.Workload.{Workload}
 use Rattle.link_claim.specs.declared.view.View.{View}
-use Rattle.link_claim.specs.Workload.{HasItem, Requests, Marks, IsRoot, bits_for, marked, IsWithin, begin_base, flag_base}
+use Rattle.link_closure.specs.Workload.{HasItem, Requests, Marks, IsRoot, bits_for, marked, IsWithin}
+use Rattle.link_claim.specs.Workload.{begin_base, flag_base}
 
 -- the first seat knows and lists nothing
 abbrev pub first_view : Workload → View

@@ -1,13 +1,14 @@
 //! The laws that every order of the steps keeps.
 ghost use Rattle.std.specs.Prelude.{◌≡◌, ◌≢◌, ◌==◌, ◌≤◌, ◌<◌, ℕ, IsTrue, IsBitSet, count_by, ◌+◌, Contains, bit_or, slice_index, length};
 ghost use Rattle.link_closure.specs.Closure.{IsLeastClosed, IsPartOfEachClosed, is_marked};
-ghost use Rattle.link_claim.specs.declared.state.Workload.{Workload};
+ghost use Rattle.link_closure.specs.declared.workload.Workload.{Workload};
 ghost use Rattle.link_claim.specs.declared.state.Core.{Core};
 ghost use Rattle.link_claim.specs.declared.state.Step.{Step};
-ghost use Rattle.link_claim.specs.declared.state.Mark.{Mark};
+ghost use Rattle.link_closure.specs.declared.workload.Mark.{Mark};
 ghost use Rattle.link_claim.specs.declared.state.Step.TheVariants.{Mark as MarkStep};
-ghost use Rattle.link_claim.specs.declared.state.Item.{Item};
-ghost use Rattle.link_claim.specs.Workload.{IsSound, FitsU32, IsRoot, HasEdge, HasItem, IsWithin, bits_for, marked, flag_base};
+ghost use Rattle.link_closure.specs.declared.workload.Item.{Item};
+ghost use Rattle.link_closure.specs.Workload.{IsSound, IsRoot, HasEdge, HasItem, bits_for, marked, IsWithin};
+ghost use Rattle.link_claim.specs.Workload.{FitsU32, flag_base};
 ghost use Rattle.link_claim.specs.Views.{first_view, with_claim};
 ghost use Rattle.link_claim.specs.Stores.{MayStore};
 ghost use Rattle.link_claim.specs.Seats.{Ending, IsSettled, claimed_in, flags_in};

@@ -1,6 +1,7 @@
 //! Claims of files, begins of work items and marks of symbols that many threads make on shared words. The words keep a
 //! rule, and the rule keeps the law of a plain core: whatever the order of the steps, once all is read the claimed files
-//! are the least closed set, and the flags have the marks of just those files.
+//! are the least closed set, and the flags have the marks of just those files. What a workload is stands in
+//! `link_closure`; here stand its words, and who steps on them.
 #![tactic(auto)]
 
 mod closed;
@@ -18,7 +19,8 @@ pub use closed::Closed;
 pub use flags::{AtomicFlagsRange, AtomicPerSymbolFlags, AtomicValueFlags};
 pub use gate::{Gate, OpenGate};
 pub use law::{any_interleaving, flags_only_grow, no_schedule_changes_the_end, no_store_will_do};
+pub use link_closure::{Item, Mark, Workload};
 pub use plan::Plan;
-pub use state::{Begun, Claimed, Core, Item, Mark, Marked, Step, Workload};
+pub use state::{Begun, Claimed, Core, Marked, Step};
 pub use view::View;
 pub use words::{Words, WorkSeat};

@@ -1,8 +1,9 @@
 //! Where the counts, the roots and the opening flags come from.
 ghost use Rattle.std.specs.Prelude.{◌≡◌, ◌<◌, ◌↔◌, IsTrue, length, slice_index};
-ghost use Rattle.link_claim.specs.declared.state.Workload.{Workload};
-ghost use Rattle.link_claim.specs.declared.state.Item.{Item};
-ghost use Rattle.link_claim.specs.Workload.{IsSound, FitsU32, IsRoot, HasItem};
+ghost use Rattle.link_closure.specs.declared.workload.Workload.{Workload};
+ghost use Rattle.link_closure.specs.declared.workload.Item.{Item};
+ghost use Rattle.link_closure.specs.Workload.{IsSound, IsRoot, HasItem};
+ghost use Rattle.link_claim.specs.Workload.{FitsU32};
 
 use link_ids::{SymbolId, ValueFlags};
 

@@ -1,6 +1,6 @@
 //! What one worker knows and has done.
 
-use crate::state::{Mark, Workload};
+use link_closure::{Mark, Workload};
 use std::collections::LinkedList;
 
 /// What the holder of a seat knows and has done. It is what contracts speak of: no value of it is made.

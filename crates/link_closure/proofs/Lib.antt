@@ -2,3 +2,4 @@ pub mod Waiting
 pub mod Turn
 pub mod Least
 pub mod Rows
+pub mod Joins

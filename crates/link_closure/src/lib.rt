@@ -1,15 +1,19 @@
 //! The least closed set: the files of a link are the least set that holds the roots, and with each file all that it
-//! asks for. Here stands what that means for any roots and any edges, and the plain way to compute it.
+//! asks for. Here stands what that means for any roots and any edges, and the plain way to compute it. Beside it stands
+//! what a workload is, for those who mean one and those who run it: the items of files, what each requests and marks, and
+//! which flags that leaves.
 #![tactic(auto)]
 
 #[cfg(test)]
 mod tests;
+mod workload;
 
 ghost use Rattle.std.specs.Prelude.{◌≡◌, ◌↔◌, ◌⊎◌, [], ◌+◌, ◌<◌, ◌≤◌, ℕ, Bool, List, not, length, count_by, Contains, All, IfOk, OnOk, IsTrue};
 ghost use Rattle.link_closure.specs.Closure.{IsLeastClosed};
 ghost use Rattle.link_closure.specs.Graph.{IsMarked, IsEdge, AreInRange, Leads, AreBelow};
 
 use std::alloc::{AllocError, Global};
+pub use workload::{Item, Mark, Workload};
 
 /// One number leads to another.
 #[derive(Clone, Copy, Debug, PartialEq, Eq)]

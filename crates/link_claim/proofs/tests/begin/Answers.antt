@@ -1,6 +1,6 @@
 use Rattle.std.proofs.Common.{sym, refl, ◌∙◌, subst}
-use Rattle.link_claim.specs.declared.state.Workload.{Workload}
-use Rattle.link_claim.specs.Workload.{HasItem}
+use Rattle.link_closure.specs.declared.workload.Workload.{Workload}
+use Rattle.link_closure.specs.Workload.{HasItem}
 use Rattle.link_claim.specs.Examples.{only_item}
 use Rattle.link_claim.proofs.tests.begin.Goals as goal
 

@@ -1,14 +1,14 @@
 use Rattle.std.proofs.Common.{◌≡◌, ◌≢◌, ⊎_elim, inr, zero, suc, ℕ, [], ◌∷◌, sym, refl, ap, ◌∙◌, subst, arith, rules}
 use Rattle.std.specs.Prelude.{Contains}
-use Rattle.link_claim.specs.declared.state.Mark.{Mark}
-use Rattle.link_claim.specs.declared.state.Item.{Item}
-use Rattle.link_claim.specs.declared.state.Workload.{Workload}
+use Rattle.link_closure.specs.declared.workload.Mark.{Mark}
+use Rattle.link_closure.specs.declared.workload.Item.{Item}
+use Rattle.link_closure.specs.declared.workload.Workload.{Workload}
 use Rattle.link_claim.specs.declared.view.View.{View}
-use Rattle.link_claim.specs.Workload.{HasItem, Requests, Marks, IsRoot}
+use Rattle.link_closure.specs.Workload.{HasItem, Requests, Marks, IsRoot}
 use Rattle.link_claim.specs.Views.{MayMark}
 use Rattle.link_claim.specs.Later.{HasRead, HasReadAll}
 use Rattle.link_claim.specs.Examples.{mark, three_files, item0, item1, item2}
-use Rattle.link_claim.proofs.Joins.{contains_here, contains_later, contains_cases, contains_none}
+use Rattle.link_closure.proofs.Joins.{contains_here, contains_later, contains_cases, contains_none}
 use Rattle.link_claim.proofs.tests.read_three_files.Goals as goal
 
 -- the element of a list of one

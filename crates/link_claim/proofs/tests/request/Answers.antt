@@ -1,6 +1,6 @@
 use Rattle.std.proofs.Common.{inl, sym, subst}
-use Rattle.link_claim.specs.declared.state.Workload.{Workload}
-use Rattle.link_claim.specs.Workload.{IsRoot}
+use Rattle.link_closure.specs.declared.workload.Workload.{Workload}
+use Rattle.link_closure.specs.Workload.{IsRoot}
 use Rattle.link_claim.specs.Examples.{is_root_of_eight}
 use Rattle.link_claim.proofs.tests.request.Goals as goal
 

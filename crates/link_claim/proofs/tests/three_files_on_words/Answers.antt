@@ -1,12 +1,12 @@
 use Rattle.std.proofs.Common.{◌≡◌, ◌<◌, ⊎_elim, ℕ, Bool, true, false, [], ◌∷◌, sym, ap, ◌∙◌, subst, arith, bit_or, cond, length, get_or}
 use Rattle.std.specs.Prelude.{Contains}
 use Rattle.link_closure.specs.Closure.{is_marked}
-use Rattle.link_claim.specs.declared.state.Workload.{Workload}
+use Rattle.link_closure.specs.declared.workload.Workload.{Workload}
 use Rattle.link_claim.specs.declared.view.View.{View}
-use Rattle.link_claim.specs.Workload.{bits_for, marked}
+use Rattle.link_closure.specs.Workload.{bits_for, marked}
 use Rattle.link_claim.specs.Seats.{Ending, IsSettled, claimed_in, flags_in}
 use Rattle.link_claim.specs.Examples.{mark, three_files}
-use Rattle.link_claim.proofs.Joins.{contains_here, contains_later, contains_cases, contains_none, either_way}
+use Rattle.link_closure.proofs.Joins.{contains_here, contains_later, contains_cases, contains_none, either_way}
 use Rattle.link_claim.proofs.tests.three_files_on_words.Goals as goal
 
 -- the flags of both symbols, by which of the files are claimed

@@ -1,6 +1,6 @@
 use Rattle.std.proofs.Common.{inl, inr, refl, []}
 use Rattle.link_claim.specs.Examples.{mark, item0, item1}
-use Rattle.link_claim.proofs.Joins.{contains_here}
+use Rattle.link_closure.proofs.Joins.{contains_here}
 use Rattle.link_claim.proofs.tests.two_workers_read_three_files.Goals as goal
 
 pub returns-clause-legal : goal.returns-clause-legal

@@ -1,5 +1,5 @@
 use Rattle.std.proofs.Common.{◌<◌, ◌+◌, sym, ap, ◌∙◌, subst, arith, IsTrue}
-use Rattle.link_claim.specs.Workload.{IsSound}
+use Rattle.link_closure.specs.Workload.{IsSound}
 use Rattle.link_claim.specs.Views.{Seated, MayRequest}
 use Rattle.link_claim.specs.Seats.{Place}
 use Rattle.link_claim.proofs.Moves.{sees_claim, takes_claim}
