@@ -27,3 +27,4 @@ pub mod ExportRules
 pub mod ExportList
 pub mod Grammar
 pub mod ListGrammar
+pub mod ListedNames
