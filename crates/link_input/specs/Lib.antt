@@ -12,4 +12,7 @@ pub mod Checks
 pub mod TableErrorText
 pub mod TableExamples
 pub mod PreludeSymbols
+pub mod InputFiles
+pub mod Symbols
+pub mod SequencedFiles
 pub mod Adding

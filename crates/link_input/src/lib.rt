@@ -12,6 +12,8 @@ mod output_queries;
 mod parsed_object;
 mod placement_queries;
 mod platform;
+#[cfg(test)]
+mod platform_tests;
 mod prelude;
 mod segment_name;
 mod symbol_entry;
@@ -39,4 +41,4 @@ pub use symbol_entry::{Place, SymbolBinding, SymbolEntry, SymbolKind};
 pub use table_error::TableError;
 pub use table_laws::{accepted_tables, checked_tables};
 pub use too_many::TooManyKind;
-pub use world::{Inputs, ProcessedLinkerScript, Scripts, StubLibrary, World};
+pub use world::{Inputs, ProcessedLinkerScript, Scripts, StubLibrary, StubSymbol, World};

@@ -1,5 +1,8 @@
 // What differs from platform to platform.
-ghost use Rattle.std.specs.Prelude.{◌≡◌, Bool, true, false, Option};
+ghost use Rattle.std.specs.Prelude.{◌≡◌, ℕ, Bool, true, false, List, Option, Result, Ok, IfOk, IfErr};
+ghost use Rattle.link_script.specs.declared.fault.Fault.{Fault};
+ghost use Rattle.link_script.specs.Fault.{Refuses};
+ghost use Rattle.link_script.specs.ListedNames.{ListedNames, IsListNamed, gnu_names, macho_names};
 ghost use Rattle.link_input.specs.declared.symbol_entry.SymbolEntry.{SymbolEntry};
 ghost use Rattle.link_input.specs.declared.options.OutputKind.{OutputKind};
 ghost use Rattle.link_input.specs.Interposition.{keeps_place};
@@ -7,6 +10,8 @@ ghost use Rattle.link_input.specs.Interposition.{keeps_place};
 use crate::options::OutputKind;
 use crate::symbol_entry::SymbolEntry;
 use link_ids::Visibility;
+use link_script::{ExportList, ScriptFault};
+use std::alloc::Global;
 
 /// A platform: its constants, and rules that are functions of their arguments. Mirrors Wild's `Platform`.
 pub trait Platform: Sized + Drop {
@@ -33,6 +38,18 @@ pub trait Platform: Sized + Drop {
     /// it is `None` exactly where no export list is given and no export name is forced.
     fn non_interposable(symbol: &SymbolEntry, output: OutputKind, listed: Option<bool>) -> bool
         ensures { result ≡ is_non_interposable symbol.now output listed };
+
+    /// What the text of an export list says, or its first fault.
+    ghost read_export_list: { List ℕ → Result ListedNames Fault };
+
+    /// The export list that a text spells, in the form that the platform's linkers read: the names that it exports, and those
+    /// that must be defined.
+    ///
+    /// A text that is no such list is refused with its first fault and that fault's place, and `Memory` comes where memory ran
+    /// out.
+    fn parse_export_list(alloc: Global, text: &[u8]) -> Result<ExportList, ScriptFault>
+        ensures read { IfOk result (λ list. (names : ListedNames) × (read_export_list text.now ≡ Ok names) × IsListNamed names list) }
+        ensures refused { IfErr result (λ error. Refuses error text.now (read_export_list text.now)) };
 }
 
 /// Platforms whose objects are like ELF's.
@@ -61,6 +78,12 @@ impl Platform for ElfLike {
     fn non_interposable(symbol: &SymbolEntry, output: OutputKind, listed: Option<bool>) -> bool {
         keeps_place(false, symbol, output, listed)
     }
+
+    ghost read_export_list = { gnu_names };
+
+    fn parse_export_list(alloc: Global, text: &[u8]) -> Result<ExportList, ScriptFault> {
+        ExportList::parse_gnu(alloc, text)
+    }
 }
 
 impl Platform for MachLike {
@@ -80,6 +103,12 @@ impl Platform for MachLike {
 
     fn non_interposable(symbol: &SymbolEntry, output: OutputKind, listed: Option<bool>) -> bool {
         keeps_place(true, symbol, output, listed)
+    }
+
+    ghost read_export_list = { macho_names };
+
+    fn parse_export_list(alloc: Global, text: &[u8]) -> Result<ExportList, ScriptFault> {
+        ExportList::parse_macho(alloc, text)
     }
 }
 

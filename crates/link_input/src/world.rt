@@ -23,6 +23,14 @@ pub struct StubLibrary {
     pub weak: Seq<Name>,
 }
 
+/// A symbol that a stub library defines.
+#[derive(Debug, Drop)]
+pub struct StubSymbol {
+    pub name: Name,
+    /// It is a weak definition.
+    pub is_weak: bool,
+}
+
 /// The files of a link, each kind in the order of the command line.
 #[derive(Drop)]
 pub struct Inputs<P: Platform> {
