@@ -7,11 +7,12 @@ use Rattle.std.proofs.lemmas.Option.{same_Some}
 use Rattle.link_ids.specs.FilePlace.{FilePlace}
 use Rattle.link_groups.specs.declared.group.Group.{Group}
 use Rattle.link_groups.specs.declared.sequencing.NextIds.{NextIds}
-use Rattle.link_groups.specs.InputFiles.{InputFile, linker_script, symbol_count}
+use Rattle.link_input.specs.InputFiles.{InputFile, linker_script, symbol_count, section_count, stub_input}
 use Rattle.link_input.specs.declared.world.ProcessedLinkerScript.{ProcessedLinkerScript}
 use Rattle.link_input.specs.declared.world.StubLibrary.{StubLibrary}
-use Rattle.link_groups.specs.SequencedFiles.{SequencedFile, file_sections, sequenced, section_count, stub_input}
-use Rattle.link_groups.specs.Groups.{files_of, file_ids, total}
+use Rattle.link_input.specs.SequencedFiles.{SequencedFile, file_sections, sequenced}
+use Rattle.link_groups.specs.Groups.{files_of, file_ids}
+use Rattle.link_input.specs.Limits.{total}
 use Rattle.link_groups.specs.FileIds.{ids_from, HavePlaces}
 use Rattle.link_groups.specs.GroupsAdded.{Adds, group_files, one_group}
 use Rattle.link_groups.proofs.Cutting.{total-append}

@@ -6,17 +6,16 @@ use Rattle.std.proofs.lemmas.Bool.{ne_eqb}
 use Rattle.link_ids.specs.Span.{Span}
 use Rattle.link_groups.specs.declared.group.Group.{Group}
 use Rattle.link_groups.specs.declared.group.Group.TheVariants as group
-use Rattle.link_input.specs.declared.options.Options.{Options}
-use Rattle.link_input.specs.declared.world.Inputs.{Inputs}
 use Rattle.link_input.specs.ObjectFile.{ObjectFile}
-use Rattle.link_groups.specs.InputFiles.{InputFile, object, linker_script, symbol_count}
-use Rattle.link_groups.specs.SequencedFiles.{SequencedFile, sequenced, sequenced_files, input_files, section_count, stub_input}
-use Rattle.link_groups.specs.Groups.{files_of, symbol_spans, length_of_spans, total, RunsFrom, RunsOn, object_file, script_file, stub_file}
+use Rattle.link_input.specs.InputFiles.{InputFile, object, linker_script, stub_input, symbol_count, section_count, Batch}
+use Rattle.link_input.specs.SequencedFiles.{SequencedFile, sequenced}
+use Rattle.link_groups.specs.Groups.{files_of, symbol_spans, length_of_spans, RunsFrom, RunsOn, object_file, script_file, stub_file}
+use Rattle.link_input.specs.Limits.{total}
 use Rattle.link_groups.specs.GroupsAdded.{group_files, one_group}
-use Rattle.link_groups.specs.Limits.{symbol_total}
-use Rattle.link_groups.specs.Grouping.{AreGrouped}
 use Rattle.link_groups.specs.Asked.{HasIdsForAll, AllCanBeAsked}
 use Rattle.link_groups.proofs.Cutting.{total-append}
+use Rattle.link_groups.proofs.Runs.{length-files}
+use Rattle.link_groups.proofs.Whole.{added_lists}
 use Rattle.link_groups.proofs.AddsLemmas.{one_group-some}
 
 -- the ids of the symbols of files
@@ -61,7 +60,7 @@ all-split : {A : Type 0} (P : A → Type 0) (xs ys : List A) → AllByRecursion 
 all-split P [] ys h = (tt, h)
 all-split P (x ∷ xs) ys h = let r = all-split P xs ys h.1 in ((h.0, r.0), r.1)
 
-all-join : {A : Type 0} (P : A → Type 0) (xs ys : List A) → AllByRecursion P xs → AllByRecursion P ys → AllByRecursion P (xs ++ ys)
+pub all-join : {A : Type 0} (P : A → Type 0) (xs ys : List A) → AllByRecursion P xs → AllByRecursion P ys → AllByRecursion P (xs ++ ys)
 all-join P [] ys hx hy = hy
 all-join P (x ∷ xs) ys hx hy = (hx.0, all-join P xs ys hx.1 hy)
 
@@ -91,19 +90,23 @@ some-one (f ∷ fs) =
     let some : eqb (length (f ∷ fs)) 0 ≡ false = ne_eqb (length (f ∷ fs)) 0 (λ e. omega (arith, e)) in
     rw (one_group-some (f ∷ fs) some) (omega arith, tt)
 
-pub some-grouped : {P : Type 0} (options : Options) (inputs : Inputs P) (workers : ℕ) (groups : List (List InputFile)) → AreGrouped options inputs workers groups → AllByRecursion (λ l. 0 < length l) groups
-some-grouped options inputs workers groups are =
-    let a = map (λ cut. map object cut) are.cuts in
-    let b = one_group (map linker_script inputs.scripts) in
-    let c = one_group (map stub_input inputs.stubs) in
-    let F : List (List InputFile) → Type 0 = λ l. AllByRecursion (λ l. 0 < length l) l in
-    subst F (sym are.groups_are) (omega arith, all-join (λ l. 0 < length l) a (b ++ c) (some-lists are.cuts are.is_cut.some) (all-join (λ l. 0 < length l) b c (some-one (map linker_script inputs.scripts)) (some-one (map stub_input inputs.stubs))))
+-- no group that is added is empty
+pub some-added : (batch : Batch) (cuts : List (List ObjectFile)) → AllByRecursion (λ g. 0 < length g) cuts → AllByRecursion (λ l. 0 < length l) (added_lists batch cuts)
+some-added batch cuts some =
+    let a = map (λ cut. map object cut) cuts in
+    let b = one_group (map linker_script batch.scripts) in
+    let c = one_group (map stub_input batch.stubs) in
+    all-join (λ l. 0 < length l) (a ++ b) c (all-join (λ l. 0 < length l) a b (some-lists cuts some) (some-one (map linker_script batch.scripts))) (some-one (map stub_input batch.stubs))
 
--- all groups of a link
-pub all-asked : {P : Type 0} (options : Options) (inputs : Inputs P) (workers : ℕ) (groups : List (Group P)) → flat_map files_of groups ≡ sequenced_files options inputs → AreGrouped options inputs workers (map group_files groups) → symbol_total options inputs < 2 ^ 32 → AllCanBeAsked groups
-all-asked options inputs workers groups files are within =
-    let fs = input_files options inputs in
+-- no group that can be asked is empty
+pub some-asked : {P : Type 0} (groups : List (Group P)) → AllCanBeAsked groups → AllByRecursion (λ l. 0 < length l) (map group_files groups)
+some-asked [] asked = tt
+some-asked (g ∷ gs) asked = (omega (arith, asked.0.some, length-files g, length-map (files_of g) (λ f. f.file)), some-asked gs asked.1)
+
+-- groups of files with ids one after another
+pub all-asked : {P : Type 0} (fs : List InputFile) (groups : List (Group P)) → flat_map files_of groups ≡ sequenced 0 0 fs → AllByRecursion (λ l. 0 < length l) (map group_files groups) → total symbol_count fs < 2 ^ 32 → AllCanBeAsked groups
+all-asked fs groups files some within =
     let F : List SequencedFile → Type 0 = λ l. RunsFrom 0 (spans l) in
     let G : List SequencedFile → Type 0 = λ l. AllByRecursion HasIdsForAll l in
     let fits : length_of_spans (spans (flat_map files_of groups)) < 2 ^ 32 = omega (arith, ap (λ l. length_of_spans (spans l)) files, total-sequenced 0 0 fs, within) in
-    groups-asked 0 groups (subst F (sym files) (runs-sequenced 0 0 fs)) (subst G (sym files) (tables-sequenced 0 0 fs)) fits (some-grouped options inputs workers (map group_files groups) are)
+    groups-asked 0 groups (subst F (sym files) (runs-sequenced 0 0 fs)) (subst G (sym files) (tables-sequenced 0 0 fs)) fits some

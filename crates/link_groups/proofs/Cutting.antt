@@ -5,7 +5,7 @@ use Rattle.std.specs.List.{flat_map, AllByRecursion}
 use Rattle.std.proofs.lemmas.Bool.{cond_both, and_parts, and_cases, or_parts, ltb-true, ltb-false, leb-false}
 use Rattle.std.proofs.lemmas.Option.{same_Some}
 use Rattle.link_input.specs.ObjectFile.{ObjectFile}
-use Rattle.link_groups.specs.Groups.{total}
+use Rattle.link_input.specs.Limits.{total}
 use Rattle.link_groups.specs.Cut.{symbols_in, is_past, is_full_for, IsWithin, AreFull, IsCut}
 
 abbrev pub size : ObjectFile → ℕ

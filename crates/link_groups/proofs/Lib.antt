@@ -1,5 +1,9 @@
+pub mod Reading
 pub mod Runs
 pub mod Cutting
 pub mod AddsLemmas
 pub mod Whole
 pub mod Asking
+pub mod FileTotals
+pub mod Following
+pub mod Numbering

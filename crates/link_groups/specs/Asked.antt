@@ -2,8 +2,8 @@
 use Rattle.std.specs.Prelude.{◌≡◌, ◌^◌, ◌<◌, List, length}
 use Rattle.std.specs.List.{AllByRecursion}
 use Rattle.link_groups.specs.declared.group.Group.{Group}
-use Rattle.link_groups.specs.InputFiles.{symbol_count}
-use Rattle.link_groups.specs.SequencedFiles.{SequencedFile}
+use Rattle.link_input.specs.InputFiles.{symbol_count}
+use Rattle.link_input.specs.SequencedFiles.{SequencedFile}
 use Rattle.link_groups.specs.Groups.{files_of, symbol_spans, length_of_spans, RunsOn}
 
 -- a file has an id for each of its symbols

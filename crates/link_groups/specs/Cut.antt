@@ -2,7 +2,7 @@
 use Rattle.std.specs.Prelude.{ℕ, ◌≡◌, ◌+◌, ◌*◌, ◌/◌, ◌<◌, ◌≤◌, ◌⊎◌, ◌||◌, ◌==◌, nat_le, nat_lt, max, Bool, true, false, List, [], ◌∷◌, length, Option, Some, None, slice_get, if◌then◌else◌}
 use Rattle.std.specs.List.{flat_map, AllByRecursion}
 use Rattle.link_input.specs.ObjectFile.{ObjectFile}
-use Rattle.link_groups.specs.Groups.{total}
+use Rattle.link_input.specs.Limits.{total}
 
 -- how many symbols objects have
 abbrev pub symbols_in : List ObjectFile → ℕ

@@ -3,8 +3,8 @@ use Rattle.std.specs.Prelude.{ℕ, List, ◌++◌, codes, decimal, length}
 use Rattle.link_ids.specs.NameText.{name_text}
 use Rattle.link_groups.specs.declared.group.Group.{Group}
 use Rattle.link_groups.specs.declared.group.Group.TheVariants as group
-use Rattle.link_groups.specs.InputFiles.{InputFile, prelude, object, linker_script, stub_library, synthetic}
-use Rattle.link_groups.specs.Groups.{total}
+use Rattle.link_input.specs.InputFiles.{InputFile, prelude, object, linker_script, stub_library, synthetic}
+use Rattle.link_input.specs.Limits.{total}
 
 -- how many objects there are, and how many symbols they have
 abbrev pub objects_text : ℕ → ℕ → List ℕ

@@ -9,8 +9,9 @@ use Rattle.link_groups.specs.declared.sequenced.SyntheticSymbols.{SyntheticSymbo
 use Rattle.link_groups.specs.declared.group.Group.{Group}
 use Rattle.link_groups.specs.declared.group.Group.TheVariants as group
 use Rattle.link_input.specs.declared.internal_symbols.InternalSymDefInfo.{InternalSymDefInfo}
-use Rattle.link_groups.specs.InputFiles.{prelude, object, linker_script, stub_library, synthetic}
-use Rattle.link_groups.specs.SequencedFiles.{SequencedFile, no_sections}
+use Rattle.link_input.specs.InputFiles.{prelude, object, linker_script, stub_library, synthetic}
+use Rattle.link_input.specs.Limits.{total}
+use Rattle.link_input.specs.SequencedFiles.{SequencedFile, no_sections}
 
 -- each kind of file, without its file id
 abbrev pub prelude_file : List InternalSymDefInfo → SequencedFile
@@ -51,11 +52,6 @@ symbol_spans (group.Objects objects) = map (λ o. o.symbol_id_range) objects
 symbol_spans (group.LinkerScripts scripts) = map (λ s. s.symbol_id_range) scripts
 symbol_spans (group.StubLibraries stubs) = map (λ s. s.symbol_id_range) stubs
 symbol_spans (group.SyntheticSymbols s) = s.symbol_id_range ∷ []
-
--- a sum over a list
-abbrev pub total : {A : Type 0} → (A → ℕ) → List A → ℕ
-total f [] = 0
-total f (x ∷ xs) = f x + total f xs
 
 -- how many numbers runs have
 abbrev pub length_of_spans : List Span → ℕ

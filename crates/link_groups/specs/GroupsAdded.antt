@@ -3,9 +3,10 @@ use Rattle.std.specs.Prelude.{◌≡◌, ◌+◌, List, [], ◌∷◌, ◌++◌,
 use Rattle.std.specs.List.{flat_map}
 use Rattle.link_groups.specs.declared.group.Group.{Group}
 use Rattle.link_groups.specs.declared.sequencing.NextIds.{NextIds}
-use Rattle.link_groups.specs.InputFiles.{InputFile, symbol_count}
-use Rattle.link_groups.specs.SequencedFiles.{sequenced, section_count}
-use Rattle.link_groups.specs.Groups.{files_of, total}
+use Rattle.link_input.specs.InputFiles.{InputFile, symbol_count, section_count}
+use Rattle.link_input.specs.SequencedFiles.{sequenced}
+use Rattle.link_groups.specs.Groups.{files_of}
+use Rattle.link_input.specs.Limits.{total}
 use Rattle.link_groups.specs.FileIds.{HavePlaces}
 
 -- the files of a group, without any ids

@@ -1,11 +1,10 @@
-pub mod InputFiles
-pub mod SequencedFiles
 pub mod Groups
 pub mod GroupText
 pub mod SequencedInputs
 pub mod Cut
 pub mod FileIds
+pub mod FileCounts
 pub mod GroupsAdded
-pub mod Limits
 pub mod Grouping
 pub mod Asked
+pub mod Held

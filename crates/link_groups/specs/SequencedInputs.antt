@@ -1,7 +1,7 @@
 -- One file of a group.
 use Rattle.link_groups.specs.declared.sequenced_input.SequencedInput.{SequencedInput}
 use Rattle.link_groups.specs.declared.sequenced_input.SequencedInput.TheVariants as input
-use Rattle.link_groups.specs.SequencedFiles.{SequencedFile}
+use Rattle.link_input.specs.SequencedFiles.{SequencedFile}
 use Rattle.link_groups.specs.Groups.{prelude_file, object_file, script_file, stub_file, synthetic_file}
 
 -- the file with the ids of its symbols and sections

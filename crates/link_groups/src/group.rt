@@ -1,7 +1,8 @@
 // Files in groups, which are read side by side.
 ghost use Rattle.std.specs.Prelude.{◌≡◌, ◌<◌, ◌^◌, Some, length, option_map, slice_get};
 ghost use Rattle.std.specs.Fmt.{WritesOnOk};
-ghost use Rattle.link_groups.specs.Groups.{files_of, file_ids, symbol_spans, length_of_spans, total, RunsOn};
+ghost use Rattle.link_groups.specs.Groups.{files_of, file_ids, symbol_spans, length_of_spans, RunsOn};
+ghost use Rattle.link_input.specs.Limits.{total};
 ghost use Rattle.link_groups.specs.GroupText.{objects_text};
 ghost use Rattle.link_groups.specs.SequencedInputs.{sequenced_file};
 

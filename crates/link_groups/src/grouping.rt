@@ -1,57 +1,72 @@
-// The inputs of a link are put into groups.
-ghost use Rattle.std.specs.Prelude.{◌≡◌, ◌≤◌, ◌⊎◌, [], ◌∷◌, Some, None, IfOk, IfErr, OnOk, length, map};
+// The inputs of a link are put into groups, one batch after another.
+ghost use Rattle.std.specs.Prelude.{◌≡◌, ◌+◌, ◌<◌, ◌≤◌, ◌^◌, ◌⊎◌, ◌++◌, [], ◌∷◌, List, Some, None, IfOk, IfErr, OnOk, length, map, option_map};
 ghost use Rattle.std.specs.List.{flat_map};
 ghost use Rattle.link_groups.specs.declared.groups_error.GroupsError.TheVariants.{Memory};
-ghost use Rattle.link_input.specs.PreludeSymbols.{prelude_symbols};
-ghost use Rattle.link_groups.specs.SequencedFiles.{sequenced_files};
+ghost use Rattle.link_input.specs.InputFiles.{Batch, batch_of};
+ghost use Rattle.link_input.specs.Limits.{AreWithinLimits, batch_limit, counts_of, first_excess};
+ghost use Rattle.link_groups.specs.FileCounts.{AreSmall, counts_in, counts_with, too_many};
 ghost use Rattle.link_groups.specs.Groups.{files_of};
-ghost use Rattle.link_groups.specs.FileIds.{HavePlaces};
 ghost use Rattle.link_groups.specs.GroupsAdded.{group_files};
-ghost use Rattle.link_groups.specs.Limits.{AreWithinLimits, first_excess};
-ghost use Rattle.link_groups.specs.Asked.{AllCanBeAsked};
-ghost use Rattle.link_groups.specs.Grouping.{AreGrouped, prelude_group};
+ghost use Rattle.link_groups.specs.Grouping.{AreGrouped, first_groups};
+ghost use Rattle.link_groups.specs.Held.{AreGroupsOf};
 
+use crate::counting::{FileCounts, counts_of_groups};
 use crate::cut::{cut_objects, symbol_limit};
 use crate::group::Group;
 use crate::groups_error::GroupsError;
-use crate::limits::{first_excess, object_symbols};
+use crate::limits::{first_excess, object_symbols, prelude_symbol_count};
 use crate::pushing::{push_object_groups, push_scripts, push_stubs};
 use crate::sequencing::NextIds;
 use link_input::{Inputs, Options, Platform, Prelude};
 use std::alloc::{AllocError, Global};
 
-// The group of the prelude alone, and the ids behind it.
-fn first_group<P: Platform>(
+// The prelude's group, where no group is held.
+fn first_groups<P: Platform>(
     alloc: Global,
     options: &Options,
-) -> Result<(Vec<Group<P>>, NextIds), AllocError>
-    ensures group { IfOk result (λ first. first.0.items ≡ prelude_group options.now ∷ []) }
-    ensures next { IfOk result (λ first. first.1 ≡ record { symbols = length (prelude_symbols options.now); sections = 0 }) }
+    held: &[Group<P>],
+) -> Result<Vec<Group<P>>, AllocError>
+    ensures { IfOk result (λ groups. groups.items ≡ first_groups options.now held.now) }
 {
-    let prelude = Prelude::new(alloc, options)?;
-    let next = NextIds {
-        symbols: prelude.num_symbols(),
-        sections: 0,
-    };
     let mut groups = Vec::new(alloc);
-    groups.push(Group::Prelude(prelude))?;
-    Ok((groups, next))
+    if held.is_empty() {
+        groups.push(Group::Prelude(Prelude::new(alloc, options)?))?;
+    }
+    Ok(groups)
 }
 
-// The groups of inputs that ids can name.
+// What is counted of the files before those of a batch: the prelude's, where no group is held, and otherwise those of the held
+// groups.
+fn counts_before<P: Platform>(options: &Options, held: &[Group<P>]) -> FileCounts
+    requires { AreSmall (counts_in (flat_map files_of held.now)) }
+    ensures value { result ≡ counts_in (flat_map files_of (held.now ++ first_groups options.now held.now)) }
+    ensures small { AreSmall result }
+{
+    if held.is_empty() {
+        let mut counts = FileCounts::none();
+        counts.symbols = prelude_symbol_count(options);
+        counts
+    } else {
+        counts_of_groups(held)
+    }
+}
+
+// The groups of inputs that ids can name, behind those that are held.
 fn groups_within_limits<P: Platform>(
     alloc: Global,
     options: &Options,
+    held: &[Group<P>],
+    before: FileCounts,
     inputs: Inputs<P>,
     workers: usize,
 ) -> Result<Vec<Group<P>>, AllocError>
     requires workers { workers ≤ 256 }
     requires files { (1 ≤ options.now.files_per_group) × (options.now.files_per_group ≤ 256) }
-    requires limits { AreWithinLimits options.now inputs }
-    ensures files { IfOk result (λ groups. flat_map files_of groups.items ≡ sequenced_files options.now inputs) }
-    ensures places { IfOk result (λ groups. HavePlaces groups.items) }
-    ensures groups { IfOk result (λ groups. AreGrouped options.now inputs workers (map group_files groups.items)) }
-    ensures asked { IfOk result (λ groups. AllCanBeAsked groups.items) }
+    requires before { before ≡ counts_in (flat_map files_of (held.now ++ first_groups options.now held.now)) }
+    requires limits { AreWithinLimits (counts_with options.now before (batch_of inputs)) }
+    requires room { length held.now + length inputs.objects + 3 ≤ 2 ^ 24 }
+    ensures follow { IfOk result (λ groups. (batches : List Batch) → AreGroupsOf options.now batches held.now → AreGroupsOf options.now (batches ++ batch_of inputs ∷ []) (held.now ++ groups.items)) }
+    ensures groups { IfOk result (λ groups. AreGrouped options.now held.now (batch_of inputs) workers (map group_files groups.items)) }
 {
     let Inputs {
         objects,
@@ -61,36 +76,43 @@ fn groups_within_limits<P: Platform>(
     let limit = symbol_limit(workers, object_symbols(objects.as_slice()));
     let files = options.files_per_group as usize;
     let cuts = cut_objects(alloc, objects.into_vec(), files, limit)?;
-    let (mut groups, mut next) = first_group(alloc, options)?;
-    push_object_groups(alloc, cuts, &mut groups, &mut next)?;
-    push_scripts(alloc, scripts.into_vec(), &mut groups, &mut next)?;
-    push_stubs(alloc, stubs.into_vec(), &mut groups, &mut next)?;
+    let mut groups = first_groups(alloc, options, held)?;
+    let mut next = NextIds {
+        symbols: before.symbols as usize,
+        sections: before.sections as usize,
+    };
+    push_object_groups(alloc, cuts, held, &mut groups, &mut next)?;
+    push_scripts(alloc, scripts.into_vec(), held, &mut groups, &mut next)?;
+    push_stubs(alloc, stubs.into_vec(), held, &mut groups, &mut next)?;
     Ok(groups)
 }
 
-/// Puts the inputs of a link into groups, which are read side by side: the prelude; the objects, at most `files_per_group`
-/// of them in a group and only so many as give each worker several groups; the linker scripts; and the stub libraries, where
-/// there are any. The ids of symbols and sections run on over the files, so that they are the same for any number of
-/// workers.
+/// Puts a batch of inputs into groups, which are read side by side: the objects, at most `files_per_group` of them in a group and
+/// only so many as give each worker several groups; the linker scripts; and the stub libraries, where there are any. The groups
+/// follow those of `held`, the groups of earlier batches with the same options, all in order; before the first batch there is
+/// none, and its groups begin with the prelude's. The ids of files, symbols and sections run on over all batches, and those of
+/// symbols and sections are the same for any number of workers.
 ///
-/// It is refused with `TooMany` where there are more of some kind than ids can name, and with `Memory`.
+/// It is refused with `TooMany` where the link has, with the batches before, more of some kind than ids can name, and with
+/// `Memory`.
 pub fn create_groups<P: Platform>(
     alloc: Global,
     options: &Options,
+    held: &[Group<P>],
     inputs: Inputs<P>,
     workers: usize,
 ) -> Result<Vec<Group<P>>, GroupsError>
     requires workers { (1 ≤ workers) × (workers ≤ 256) }
     requires files { (1 ≤ options.now.files_per_group) × (options.now.files_per_group ≤ 256) }
-    ensures files { IfOk result (λ groups. flat_map files_of groups.items ≡ sequenced_files options.now inputs) }
-    ensures places { IfOk result (λ groups. HavePlaces groups.items) }
-    ensures groups { IfOk result (λ groups. AreGrouped options.now inputs workers (map group_files groups.items)) }
-    ensures asked { IfOk result (λ groups. AllCanBeAsked groups.items) }
-    ensures within { OnOk result (first_excess options.now inputs ≡ None) }
-    ensures refused { IfErr result (λ error. (first_excess options.now inputs ≡ Some error) ⊎ (error ≡ Memory)) }
+    requires held { (batches : List Batch) × AreGroupsOf options.now batches held.now × (length batches < batch_limit) }
+    ensures follow { IfOk result (λ groups. (batches : List Batch) → AreGroupsOf options.now batches held.now → AreGroupsOf options.now (batches ++ batch_of inputs ∷ []) (held.now ++ groups.items)) }
+    ensures groups { IfOk result (λ groups. AreGrouped options.now held.now (batch_of inputs) workers (map group_files groups.items)) }
+    ensures within { OnOk result ((batches : List Batch) → AreGroupsOf options.now batches held.now → first_excess (counts_of options.now (batches ++ batch_of inputs ∷ [])) ≡ None) }
+    ensures refused { IfErr result (λ error. (batches : List Batch) → AreGroupsOf options.now batches held.now → (option_map too_many (first_excess (counts_of options.now (batches ++ batch_of inputs ∷ []))) ≡ Some error) ⊎ (error ≡ Memory)) }
 {
-    if let Some(error) = first_excess(options, &inputs) {
+    let before = counts_before(options, held);
+    if let Some(error) = first_excess(options, before, &inputs) {
         return Err(error);
     }
-    Ok(groups_within_limits(alloc, options, inputs, workers)?)
+    Ok(groups_within_limits(alloc, options, held, before, inputs, workers)?)
 }

@@ -1,12 +1,14 @@
 //! The inputs of a link in groups, which are read side by side, with the ids of their files, symbols and sections.
 #![tactic(auto)]
 
+mod counting;
 mod cut;
 mod group;
 mod grouping;
 mod groups_error;
 mod limits;
 mod pushing;
+mod sequence_laws;
 mod sequenced;
 mod sequenced_input;
 mod sequencing;
@@ -16,7 +18,8 @@ mod tests;
 pub use group::Group;
 pub use grouping::create_groups;
 pub use groups_error::GroupsError;
+pub use sequence_laws::{ids_run_on, symbols_are_numbered};
 pub use sequenced::{
-    SequencedInputObject, SequencedLinkerScript, SequencedStubLibrary, StubSymbol, SyntheticSymbols,
+    SequencedInputObject, SequencedLinkerScript, SequencedStubLibrary, SyntheticSymbols,
 };
 pub use sequenced_input::SequencedInput;

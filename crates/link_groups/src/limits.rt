@@ -1,17 +1,18 @@
 // How many inputs a link may have.
-ghost use Rattle.std.specs.Prelude.{◌≡◌, ◌+◌, ◌*◌, ◌^◌, ◌<◌, ◌≤◌, IfNone, length, map};
-ghost use Rattle.link_groups.specs.InputFiles.{object, linker_script, symbol_count};
-ghost use Rattle.link_groups.specs.SequencedFiles.{section_count, sections_of, stub_input};
+ghost use Rattle.std.specs.Prelude.{◌≡◌, ◌+◌, ◌*◌, ◌^◌, ◌<◌, ◌≤◌, IfNone, length, map, option_map};
+ghost use Rattle.link_input.specs.InputFiles.{object, linker_script, stub_input, symbol_count, batch_of, batch_files, sections_of};
 ghost use Rattle.link_input.specs.PreludeSymbols.{prelude_symbols};
-ghost use Rattle.link_groups.specs.Groups.{total};
-ghost use Rattle.link_groups.specs.Limits.{AreWithinLimits, excess, first_excess, symbol_total};
+ghost use Rattle.link_input.specs.Limits.{AreWithinLimits, excess, first_excess, section_total, total};
+ghost use Rattle.link_groups.specs.FileCounts.{AreSmall, counts_with, too_many};
 
+use crate::counting::FileCounts;
 use crate::groups_error::GroupsError;
 
-/// At most how many objects a link may have: each may be a group, and four groups are set aside.
-const OBJECT_LIMIT: u128 = 16_777_212;
+/// At most how many objects a link may have: each may be a group, and of the 2^24 numbers of groups the linker scripts and the
+/// stub libraries of each of 256 batches need one, the prelude one, and the symbols that the linker adds one.
+const OBJECT_LIMIT: u128 = 16_776_700;
 
-/// At most how many linker scripts, and how many stub libraries, a link may have: each kind is one group.
+/// At most how many linker scripts, and how many stub libraries, a link may have.
 const FILE_LIMIT: u128 = 256;
 
 /// At most how many sections, and how many symbols, a link may have: an id has 32 bits.
@@ -19,7 +20,7 @@ const ID_LIMIT: u128 = 4_294_967_295;
 
 // The refusal of a count past its limit.
 fn excess(kind: TooManyKind, limit: u128, count: u128) -> Option<GroupsError>
-    ensures refusal { result ≡ excess kind limit count }
+    ensures refusal { result ≡ option_map too_many (excess kind limit count) }
     ensures within { IfNone result (count ≤ limit) }
 {
     if limit < count {
@@ -44,7 +45,8 @@ fn sections_of<P: Platform>(object: &ParsedInputObject<P>) -> u128
 // How many sections of objects have ids.
 fn section_total<P: Platform>(objects: &[ParsedInputObject<P>]) -> u128
     requires { length objects.now < 2 ^ 25 }
-    ensures { result ≡ total section_count (map object objects.now) }
+    ensures value { result ≡ section_total objects.now }
+    ensures fits { result < 2 ^ 100 }
 {
     let mut count = 0u128;
     for object in objects {
@@ -92,8 +94,8 @@ fn stub_library_symbols(stubs: &[StubLibrary]) -> u128
     count
 }
 
-// How many symbols the prelude has.
-fn prelude_symbol_count(options: &Options) -> u128
+/// How many symbols the prelude has.
+pub(crate) fn prelude_symbol_count(options: &Options) -> u128
     ensures value { result ≡ length (prelude_symbols options.now) }
     ensures fits { result < 2 ^ 100 }
 {
@@ -103,50 +105,53 @@ fn prelude_symbol_count(options: &Options) -> u128
     1 + linker + forced + redirects
 }
 
-// How many symbols there may be: those of all files, and a start and a stop symbol for each custom section.
-fn symbol_total<P: Platform>(options: &Options, inputs: &Inputs<P>) -> u128
+// How many symbols the files of a batch have.
+fn batch_symbols<P: Platform>(inputs: &Inputs<P>) -> u128
     requires objects { length inputs.now.objects < 2 ^ 25 }
     requires scripts { length inputs.now.scripts ≤ 256 }
     requires stubs { length inputs.now.stubs ≤ 256 }
-    ensures { result ≡ symbol_total options.now inputs.now }
+    ensures value { result ≡ total symbol_count (batch_files (batch_of inputs.now)) }
+    ensures fits { result < 2 ^ 102 }
 {
-    let prelude = prelude_symbol_count(options);
     let objects = object_symbols(inputs.objects.as_slice());
     let scripts = script_symbols(inputs.scripts.as_slice());
     let stubs = stub_library_symbols(inputs.stubs.as_slice());
-    let custom = options.custom_sections.len() as u128;
-    prelude + objects + scripts + stubs + 2 * custom
+    objects + scripts + stubs
 }
 
-/// The first count past its limit.
+/// The first count past its limit, where files with these counts stand before those of a batch.
 pub(crate) fn first_excess<P: Platform>(
     options: &Options,
+    before: FileCounts,
     inputs: &Inputs<P>,
 ) -> Option<GroupsError>
-    ensures first { result ≡ first_excess options.now inputs.now }
-    ensures within { IfNone result (AreWithinLimits options.now inputs.now) }
+    requires { AreSmall before }
+    ensures first { result ≡ option_map too_many (first_excess (counts_with options.now before (batch_of inputs.now))) }
+    ensures within { IfNone result (AreWithinLimits (counts_with options.now before (batch_of inputs.now))) }
 {
     let objects = inputs.objects.as_slice();
-    let too_many = excess(TooManyKind::Objects, OBJECT_LIMIT, objects.len() as u128);
+    let object_count = before.objects + objects.len() as u128;
+    let too_many = excess(TooManyKind::Objects, OBJECT_LIMIT, object_count);
     if too_many.is_some() {
         return too_many;
     }
-    let scripts = inputs.scripts.len() as u128;
+    let scripts = before.scripts + inputs.scripts.len() as u128;
     let too_many_scripts = excess(TooManyKind::LinkerScripts, FILE_LIMIT, scripts);
     if too_many_scripts.is_some() {
         return too_many_scripts;
     }
-    let stubs = inputs.stubs.len() as u128;
+    let stubs = before.stubs + inputs.stubs.len() as u128;
     let too_many_stubs = excess(TooManyKind::StubLibraries, FILE_LIMIT, stubs);
     if too_many_stubs.is_some() {
         return too_many_stubs;
     }
-    let sections = section_total(objects);
+    let sections = before.sections + section_total(objects);
     let too_many_sections = excess(TooManyKind::Sections, ID_LIMIT, sections);
     if too_many_sections.is_some() {
         return too_many_sections;
     }
-    let symbols = symbol_total(options, inputs);
+    let custom = options.custom_sections.len() as u128;
+    let symbols = before.symbols + batch_symbols(inputs) + 2 * custom;
     excess(TooManyKind::Symbols, ID_LIMIT, symbols)
 }
 

@@ -3,14 +3,14 @@ ghost use Rattle.std.specs.Prelude.{◌≡◌, ◌<◌, Some, length, option_map
 ghost use Rattle.std.specs.Option.{option_and_then};
 ghost use Rattle.link_ids.specs.Span.{IsInside, offset_in};
 ghost use Rattle.link_input.specs.BindingStrength.{binding_strength};
-ghost use Rattle.link_groups.specs.InputFiles.{section_id, stub_strength};
+ghost use Rattle.link_input.specs.Symbols.{section_id, stub_strength};
 ghost use Rattle.link_input.specs.ObjectFile.{is_optional};
 
 use link_ids::{
     FileId, InputSectionId, InputSectionIndex, Name, SectionIdRange, Seq, SymbolId, SymbolIdRange,
     SymbolStrength,
 };
-use link_input::{ParsedInputObject, Platform, ProcessedLinkerScript, SymbolEntry};
+use link_input::{ParsedInputObject, Platform, ProcessedLinkerScript, StubSymbol, SymbolEntry};
 
 /// An object with its place in a link. Mirrors Wild's `SequencedInputObject`.
 #[derive(Drop)]
@@ -30,14 +30,6 @@ pub struct SequencedLinkerScript {
     /// The ids of its symbols, in the order of their definitions.
     pub symbol_id_range: SymbolIdRange,
     pub file_id: FileId,
-}
-
-/// A symbol that a stub library defines.
-#[derive(Debug, Drop)]
-pub struct StubSymbol {
-    pub name: Name,
-    /// It is a weak definition.
-    pub is_weak: bool,
 }
 
 /// A stub library with its place in a link. Mirrors Wild's `SequencedStubLibrary`.

@@ -1,7 +1,8 @@
 // One file of a group.
 ghost use Rattle.std.specs.Prelude.{◌≡◌, Some, option_map};
 ghost use Rattle.link_ids.specs.Span.{IsInside, offset_in};
-ghost use Rattle.link_groups.specs.InputFiles.{is_optional_file, is_shared_file, name_at, section_at, strength_at, symbol_count, version_at};
+ghost use Rattle.link_input.specs.InputFiles.{is_optional_file, is_shared_file, symbol_count};
+ghost use Rattle.link_input.specs.Symbols.{name_at, section_at, strength_at, version_at};
 ghost use Rattle.link_groups.specs.SequencedInputs.{sequenced_file};
 
 use crate::sequenced::{

@@ -1,15 +1,14 @@
 // Files are given their ids, one after another.
 ghost use Rattle.std.specs.Prelude.{◌≡◌, ◌+◌, ◌<◌, ◌≤◌, ◌^◌, ◌++◌, IfOk, OnOk, length, map};
-ghost use Rattle.link_groups.specs.InputFiles.{object, linker_script, stub_symbol, stub_symbols, symbol_count};
-ghost use Rattle.link_groups.specs.SequencedFiles.{object_sections, section_count, sections_of, sequenced, stub_input};
-ghost use Rattle.link_groups.specs.Groups.{object_file, script_file, stub_file, total};
+ghost use Rattle.link_input.specs.InputFiles.{object, linker_script, stub_symbol, stub_symbols, symbol_count, section_count, sections_of, stub_input};
+ghost use Rattle.link_input.specs.SequencedFiles.{object_sections, sequenced};
+ghost use Rattle.link_groups.specs.Groups.{object_file, script_file, stub_file};
+ghost use Rattle.link_input.specs.Limits.{total};
 ghost use Rattle.link_groups.specs.FileIds.{ids_from};
 
-use crate::sequenced::{
-    SequencedInputObject, SequencedLinkerScript, SequencedStubLibrary, StubSymbol,
-};
+use crate::sequenced::{SequencedInputObject, SequencedLinkerScript, SequencedStubLibrary};
 use link_ids::{FileId, InputSectionId, Name, SectionIdRange, Seq, SymbolId, SymbolIdRange};
-use link_input::{ParsedInputObject, Platform, ProcessedLinkerScript, StubLibrary};
+use link_input::{ParsedInputObject, Platform, ProcessedLinkerScript, StubLibrary, StubSymbol};
 use std::alloc::{AllocError, Global};
 
 /// The first ids that no file has yet.

@@ -1,4 +1,6 @@
 // Tests of the prelude, of groups, and of how files are shown.
+ghost use Rattle.std.specs.Prelude.{◌≤◌};
+
 use crate::{Group, GroupsError, SyntheticSymbols, create_groups};
 use link_ids::{FileId, Name, Seq, SymbolIdRange, Visibility};
 use link_input::{
@@ -85,6 +87,35 @@ fn inputs_of(alloc: Global, objects: Vec<ParsedInputObject<MachLike>>) -> Inputs
     }
 }
 
+// The groups of the first batch of a link.
+fn grouped(
+    alloc: Global,
+    options: &Options,
+    inputs: Inputs<MachLike>,
+    workers: usize,
+) -> Result<Vec<Group<MachLike>>, GroupsError>
+    requires workers { (1 ≤ workers) × (workers ≤ 256) }
+    requires files { (1 ≤ options.now.files_per_group) × (options.now.files_per_group ≤ 256) }
+{
+    let none = Vec::new(alloc);
+    create_groups(alloc, options, none.as_slice(), inputs, workers)
+}
+
+// The groups of a first batch, and those of a second one.
+fn grouped_twice(
+    alloc: Global,
+    options: &Options,
+    first: Inputs<MachLike>,
+    second: Inputs<MachLike>,
+) -> Result<(Vec<Group<MachLike>>, Vec<Group<MachLike>>), GroupsError>
+    requires { (1 ≤ options.now.files_per_group) × (options.now.files_per_group ≤ 256) }
+{
+    let none = Vec::new(alloc);
+    let groups = create_groups(alloc, options, none.as_slice(), first, 1)?;
+    let more = create_groups(alloc, options, groups.as_slice(), second, 1)?;
+    Ok((groups, more))
+}
+
 // What groups show, a line each.
 fn texts<P: Platform>(alloc: Global, groups: &[Group<P>]) -> Result<String, Fail> {
     let mut text = String::new(alloc);
@@ -121,7 +152,7 @@ fn symbols_end_a_group_for_many_workers(rt: HostRuntime) -> Result<(), Fail> {
             objects.push(object(alloc, b"a.o", symbols, 2)?)?;
         }
         let options = Options::new(alloc);
-        let groups = create_groups(alloc, &options, inputs_of(alloc, objects), workers)?;
+        let groups = grouped(alloc, &options, inputs_of(alloc, objects), workers)?;
         assert_eq!(rt; texts(alloc, groups.as_slice())?.as_str(), want);
     }
     Ok(())
@@ -137,7 +168,7 @@ fn a_group_has_at_most_256_files(rt: HostRuntime) -> Result<(), Fail> {
                 objects.push(object(alloc, b"a.o", 0, 0)?)?;
             }
             let options = Options::new(alloc);
-            let groups = create_groups(alloc, &options, inputs_of(alloc, objects), workers)?;
+            let groups = grouped(alloc, &options, inputs_of(alloc, objects), workers)?;
             assert_eq!(rt; groups.len(), want);
         }
     }
@@ -167,7 +198,7 @@ fn groups_and_files_are_shown(rt: HostRuntime) -> Result<(), Fail> {
         SymbolPlacement::Redirect(redirect),
         Name::from_slice(alloc, b"opened")?,
     ))?;
-    let mut groups = create_groups(alloc, &options, inputs, 1)?;
+    let mut groups = grouped(alloc, &options, inputs, 1)?;
     groups.push(Group::SyntheticSymbols(SyntheticSymbols {
         file_id: FileId::new(4, 0),
         symbol_id_range: SymbolIdRange::empty(),
@@ -191,7 +222,74 @@ fn linker_scripts_past_256_are_refused(rt: HostRuntime) -> Result<(), Fail> {
         inputs.scripts.push(script(alloc)?)?;
     }
     let options = Options::new(alloc);
-    let refusal = create_groups(alloc, &options, inputs, 1).err();
+    let refusal = grouped(alloc, &options, inputs, 1).err();
+    assert_eq!(rt;
+        refusal,
+        Some(GroupsError::TooMany {
+            kind: TooManyKind::LinkerScripts,
+            count: 257,
+        })
+    );
+    Ok(())
+}
+
+// The group's number, and the ids of the first symbol and of the first section, of the first object of a group of objects.
+fn first_ids(group: &Group<MachLike>) -> Option<(usize, usize, usize)> {
+    let Group::Objects(objects) = group else {
+        return None;
+    };
+    let object = objects.as_slice().first()?;
+    let symbols = object.symbol_id_range;
+    let sections = object.section_id_range;
+    Some((
+        object.file_id.group(),
+        symbols.start().as_usize(),
+        sections.start().as_usize(),
+    ))
+}
+
+#[test]
+fn ids_run_on_in_a_second_batch(rt: HostRuntime) -> Result<(), Fail> {
+    let alloc = rt.alloc();
+    let mut objects = Vec::new(alloc);
+    objects.push(object(alloc, b"a.o", 2, 3)?)?;
+    let mut first = inputs_of(alloc, objects);
+    first.scripts.push(script(alloc)?)?;
+    let mut objects = Vec::new(alloc);
+    objects.push(object(alloc, b"b.o", 4, 1)?)?;
+    let mut second = inputs_of(alloc, objects);
+    second.stubs.push(stub(alloc)?)?;
+    let options = Options::new(alloc);
+    let (groups, more) = grouped_twice(alloc, &options, first, second)?;
+    assert_eq!(rt;
+        texts(alloc, groups.as_slice())?.as_str(),
+        "<prelude>;num_objects: 1 num_symbols: 2;1 linker script(s);"
+    );
+    assert_eq!(rt;
+        texts(alloc, more.as_slice())?.as_str(),
+        "num_objects: 1 num_symbols: 4;1 Mach-O stub library(s);"
+    );
+    let ids = match more.as_slice().first() {
+        None => None,
+        Some(group) => first_ids(group),
+    };
+    assert_eq!(rt; ids, Some((3, 4, 3)));
+    Ok(())
+}
+
+#[test]
+fn limits_count_both_batches(rt: HostRuntime) -> Result<(), Fail> {
+    let alloc = rt.alloc();
+    let mut first = inputs_of(alloc, Vec::new(alloc));
+    for _ in 0..200 {
+        first.scripts.push(script(alloc)?)?;
+    }
+    let mut second = inputs_of(alloc, Vec::new(alloc));
+    for _ in 0..57 {
+        second.scripts.push(script(alloc)?)?;
+    }
+    let options = Options::new(alloc);
+    let refusal = grouped_twice(alloc, &options, first, second).err();
     assert_eq!(rt;
         refusal,
         Some(GroupsError::TooMany {

@@ -1,5 +1,5 @@
 use Rattle.std.proofs.Common.{◌≡◌, ◌+◌, ◌≤◌, ◌*◌, ◌^◌, drop}
-use Rattle.link_groups.specs.Groups.{total}
+use Rattle.link_input.specs.Limits.{total}
 use Rattle.link_groups.proofs.group.symbols_of_objects.Given as goal
 
 abbrev pub invariant-loop-object : goal.invariant-loop-object

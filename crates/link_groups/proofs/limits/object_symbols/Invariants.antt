@@ -1,6 +1,6 @@
 use Rattle.std.proofs.Common.{◌≡◌, ◌+◌, ◌≤◌, ◌*◌, ◌^◌, drop, map}
-use Rattle.link_groups.specs.InputFiles.{object, symbol_count}
-use Rattle.link_groups.specs.Groups.{total}
+use Rattle.link_input.specs.InputFiles.{object, symbol_count}
+use Rattle.link_input.specs.Limits.{total}
 use Rattle.link_groups.proofs.limits.object_symbols.Given as goal
 
 abbrev pub invariant-loop-object : goal.invariant-loop-object

@@ -1,6 +1,6 @@
 use Rattle.std.proofs.Common.{◌≡◌, ◌+◌, ◌≤◌, ◌*◌, ◌^◌, drop, map}
-use Rattle.link_groups.specs.InputFiles.{linker_script, symbol_count}
-use Rattle.link_groups.specs.Groups.{total}
+use Rattle.link_input.specs.InputFiles.{linker_script, symbol_count}
+use Rattle.link_input.specs.Limits.{total}
 use Rattle.link_groups.proofs.limits.script_symbols.Given as goal
 
 abbrev pub invariant-loop-script : goal.invariant-loop-script

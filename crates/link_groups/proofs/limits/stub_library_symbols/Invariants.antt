@@ -1,7 +1,6 @@
 use Rattle.std.proofs.Common.{◌≡◌, ◌+◌, ◌≤◌, ◌*◌, ◌^◌, drop, map}
-use Rattle.link_groups.specs.InputFiles.{symbol_count}
-use Rattle.link_groups.specs.SequencedFiles.{stub_input}
-use Rattle.link_groups.specs.Groups.{total}
+use Rattle.link_input.specs.InputFiles.{symbol_count, stub_input}
+use Rattle.link_input.specs.Limits.{total}
 use Rattle.link_groups.proofs.limits.stub_library_symbols.Given as goal
 
 abbrev pub invariant-loop-stub : goal.invariant-loop-stub

@@ -1,8 +1,7 @@
 use Rattle.std.proofs.Common.{rules, ◌≡◌, ◌∷◌, [], map, length, ap, arith}
 use Rattle.std.specs.Vec.Iter.{into_iter_items}
 use Rattle.std.proofs.lemmas.List.{map-append}
-use Rattle.link_groups.specs.InputFiles.{object, symbol_count}
-use Rattle.link_groups.specs.SequencedFiles.{section_count}
+use Rattle.link_input.specs.InputFiles.{object, symbol_count, section_count}
 use Rattle.link_groups.proofs.AddsLemmas.{adds-more, left-sum, one-sum}
 use Rattle.link_groups.proofs.pushing.push_object_groups.Goals as goal
 

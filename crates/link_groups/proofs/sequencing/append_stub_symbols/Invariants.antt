@@ -1,6 +1,6 @@
 use Rattle.std.proofs.Common.{◌≡◌, ◌++◌, map}
 use Rattle.std.specs.Vec.Iter.{into_iter_items}
-use Rattle.link_groups.specs.InputFiles.{stub_symbol}
+use Rattle.link_input.specs.InputFiles.{stub_symbol}
 use Rattle.link_groups.proofs.sequencing.append_stub_symbols.Given as goal
 
 abbrev pub invariant-loop-name : goal.invariant-loop-name

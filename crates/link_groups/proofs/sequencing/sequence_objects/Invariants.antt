@@ -1,8 +1,9 @@
 use Rattle.std.proofs.Common.{◌≡◌, ◌+◌, ◌++◌, length, map}
 use Rattle.std.specs.Vec.Iter.{into_iter_items}
-use Rattle.link_groups.specs.InputFiles.{object, symbol_count}
-use Rattle.link_groups.specs.SequencedFiles.{section_count, sequenced}
-use Rattle.link_groups.specs.Groups.{object_file, total}
+use Rattle.link_input.specs.InputFiles.{object, symbol_count, section_count}
+use Rattle.link_input.specs.SequencedFiles.{sequenced}
+use Rattle.link_groups.specs.Groups.{object_file}
+use Rattle.link_input.specs.Limits.{total}
 use Rattle.link_groups.specs.FileIds.{ids_from}
 use Rattle.link_groups.proofs.sequencing.sequence_objects.Given as goal
 

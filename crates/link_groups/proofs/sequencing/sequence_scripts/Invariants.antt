@@ -1,8 +1,9 @@
 use Rattle.std.proofs.Common.{◌≡◌, ◌+◌, ◌++◌, length, map}
 use Rattle.std.specs.Vec.Iter.{into_iter_items}
-use Rattle.link_groups.specs.InputFiles.{linker_script, symbol_count}
-use Rattle.link_groups.specs.SequencedFiles.{sequenced}
-use Rattle.link_groups.specs.Groups.{script_file, total}
+use Rattle.link_input.specs.InputFiles.{linker_script, symbol_count}
+use Rattle.link_input.specs.SequencedFiles.{sequenced}
+use Rattle.link_groups.specs.Groups.{script_file}
+use Rattle.link_input.specs.Limits.{total}
 use Rattle.link_groups.specs.FileIds.{ids_from}
 use Rattle.link_groups.proofs.sequencing.sequence_scripts.Given as goal
 

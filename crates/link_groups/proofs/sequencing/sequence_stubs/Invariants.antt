@@ -1,8 +1,9 @@
 use Rattle.std.proofs.Common.{◌≡◌, ◌+◌, ◌++◌, length, map}
 use Rattle.std.specs.Vec.Iter.{into_iter_items}
-use Rattle.link_groups.specs.InputFiles.{symbol_count}
-use Rattle.link_groups.specs.SequencedFiles.{sequenced, stub_input}
-use Rattle.link_groups.specs.Groups.{stub_file, total}
+use Rattle.link_input.specs.InputFiles.{symbol_count, stub_input}
+use Rattle.link_input.specs.SequencedFiles.{sequenced}
+use Rattle.link_groups.specs.Groups.{stub_file}
+use Rattle.link_input.specs.Limits.{total}
 use Rattle.link_groups.specs.FileIds.{ids_from}
 use Rattle.link_groups.proofs.sequencing.sequence_stubs.Given as goal
 
