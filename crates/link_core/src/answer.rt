@@ -7,15 +7,13 @@ ghost use Rattle.link_core.specs.Steps.{flags_from};
 ghost use Rattle.link_rules.specs.Places.{each_from, some_from, is_number};
 ghost use Rattle.link_rules.specs.Plain.Loading.{target};
 ghost use Rattle.link_rules.specs.Plain.Undefined.{canonical_undefined, is_canonical};
-ghost use Rattle.link_rules.specs.Plain.Table.{table_of, definition};
-ghost use Rattle.link_rules.specs.Plain.Answer.{loaded_object, linked_symbol, undefined_name, some_if};
+ghost use Rattle.link_rules.specs.Plain.Answer.{loaded_object, symbol_flags, undefined_name, some_if};
 
 use crate::flags::{final_flags, referenced_symbols};
 use crate::names::is_left;
-use crate::table::definition;
-use link_ids::{Name, SymbolId};
+use link_ids::{Name, SymbolId, ValueFlags};
 use link_input::{ParsedInputObject, Platform};
-use link_rules::{LinkedSymbol, LoadedObject, Symbol, UndefinedName};
+use link_rules::{LoadedObject, Symbol, UndefinedName};
 use std::alloc::{AllocError, Global};
 use std::collections::HashMap;
 
@@ -83,30 +81,46 @@ pub fn is_number(known: Option<u32>, id: u32) -> bool
     }
 }
 
-/// Each symbol, with what it means and its flags.
-pub fn linked_symbols(
+/// The name of each symbol.
+pub fn symbol_names(alloc: Global, symbols: &[Symbol]) -> Result<Vec<Name>, AllocError>
+    ensures { IfOk result (λ names. names.items ≡ map (λ x. x.name) symbols.now) }
+{
+    let mut names = Vec::with_capacity(alloc, symbols.len())?;
+    for symbol in symbols {
+        names.push(Name::from_slice(alloc, symbol.name.as_slice())?)?;
+    }
+    Ok(names)
+}
+
+/// The ids of the symbols to which a table points.
+pub fn symbol_ids(alloc: Global, table: &[u32]) -> Result<Vec<SymbolId>, AllocError>
+    ensures { IfOk result (λ ids. ids.items ≡ table.now) }
+{
+    let mut ids = Vec::with_capacity(alloc, table.len())?;
+    for entry in table {
+        ids.push(SymbolId::from_usize(*entry as usize))?;
+    }
+    Ok(ids)
+}
+
+/// The flags of each symbol.
+pub fn symbol_flags(
     alloc: Global,
     symbols: &[Symbol],
     targets: &[Option<u32>],
     loaded: &[bool],
-    table: &[u32],
     canonical: &[bool],
-) -> Result<Vec<LinkedSymbol>, AllocError>
+) -> Result<Vec<ValueFlags>, AllocError>
     requires targets { targets.now ≡ map (target symbols.now) symbols.now }
     requires canonical { canonical.now ≡ each_from (is_canonical symbols.now loaded.now) 0 symbols.now }
-    ensures { IfOk result (λ linked. linked.items ≡ each_from (linked_symbol symbols.now loaded.now table.now) 0 symbols.now) }
+    ensures { IfOk result (λ flags. flags.items ≡ symbol_flags symbols.now loaded.now) }
 {
     let referenced = referenced_symbols(alloc, symbols, targets, loaded)?;
-    let mut linked = Vec::with_capacity(alloc, symbols.len())?;
+    let mut flags = Vec::with_capacity(alloc, symbols.len())?;
     for (i, symbol) in symbols.iter().enumerate() {
-        let flags = final_flags(symbol, is_set(&referenced, i), is_set(canonical, i));
-        linked.push(LinkedSymbol {
-            name: Name::from_slice(alloc, symbol.name.as_slice())?,
-            definition: SymbolId::from_usize(definition(table, i) as usize),
-            flags,
-        })?;
+        flags.push(final_flags(symbol, is_set(&referenced, i), is_set(canonical, i)))?;
     }
-    Ok(linked)
+    Ok(flags)
 }
 
 fn is_set(marks: &[bool], at: usize) -> bool

@@ -5,12 +5,14 @@ ghost use Rattle.link_rules.specs.Plain.Lists.{first_definition};
 ghost use Rattle.link_rules.specs.Plain.Loading.{target, IsLoaded};
 ghost use Rattle.link_rules.specs.Plain.Rivals.{loaded_definitions};
 ghost use Rattle.link_rules.specs.Plain.World.{symbols_of};
-ghost use Rattle.link_rules.specs.Plain.Answer.{IsLinked, IsRefused, limit_refusal, early_refusal, answer_of};
-ghost use Rattle.link_rules.specs.Refusals.{limit_cause, section_count};
-ghost use Rattle.link_input.specs.Limits.{object_limit};
+ghost use Rattle.link_rules.specs.Plain.Answer.{IsLinked, IsRefused, limit_cause, limit_refusal, early_refusal, answer_of};
+ghost use Rattle.link_input.specs.InputFiles.{sections_of};
+ghost use Rattle.link_input.specs.Limits.{object_limit, section_total};
 ghost use Rattle.link_rules.specs.declared.refusal.LinkError.TheVariants.{Memory};
 
-use crate::answer::{canonical_marks, linked_symbols, loaded_objects, undefined_names};
+use crate::answer::{
+    canonical_marks, loaded_objects, symbol_flags, symbol_ids, symbol_names, undefined_names,
+};
 use crate::loading;
 use crate::names::{
     LoadedDefinitions, canonical_references, first_definitions, loaded_definitions,
@@ -24,8 +26,8 @@ use link_rules::{LinkError, Linked, Symbol};
 use std::alloc::{AllocError, Global};
 use std::collections::HashMap;
 
-/// At most how many objects a link may have: each has a group, and three groups are set aside.
-const OBJECT_LIMIT: u128 = 16_777_212;
+/// At most how many objects a link may have: each may be a group, and some groups are set aside for what batches bring.
+const OBJECT_LIMIT: u128 = 16_776_700;
 
 /// At most how many sections, and how many symbols, a link may have: an id has 32 bits.
 const ID_LIMIT: u128 = 4_294_967_295;
@@ -164,13 +166,17 @@ fn answer<'a, P: Platform>(
     )?;
     let canonical = canonical_marks(alloc, symbols, targets, loaded, &references)?;
     let canonical = canonical.as_slice();
-    let linked = linked_symbols(alloc, symbols, targets, loaded, table.as_slice(), canonical)?;
+    let names = symbol_names(alloc, symbols)?;
+    let ids = symbol_ids(alloc, table.as_slice())?;
+    let flags = symbol_flags(alloc, symbols, targets, loaded, canonical)?;
     let undefined = undefined_names(alloc, symbols, loaded, canonical)?;
     let objects = loaded_objects(alloc, objects, loaded)?;
     Ok(Linked {
         loaded: Seq::from_vec(objects),
         kept: Seq::new(alloc),
-        symbols: Seq::from_vec(linked),
+        names: Seq::from_vec(names),
+        table: Seq::from_vec(ids),
+        flags: Seq::from_vec(flags),
         versions: Seq::new(alloc),
         undefined: Seq::from_vec(undefined),
         missing: Seq::new(alloc),
@@ -186,7 +192,7 @@ fn limit_refusal<P: Platform>(objects: &[ParsedInputObject<P>]) -> Option<LinkEr
     if objects_refusal.is_some() {
         return objects_refusal;
     }
-    let sections_refusal = limit_cause(TooManyKind::Sections, ID_LIMIT, section_count(objects));
+    let sections_refusal = limit_cause(TooManyKind::Sections, ID_LIMIT, section_total(objects));
     if sections_refusal.is_some() {
         return sections_refusal;
     }
@@ -205,9 +211,9 @@ fn limit_cause(kind: TooManyKind, limit: u128, count: u128) -> Option<LinkError>
 }
 
 // How many sections the regular objects have.
-fn section_count<P: Platform>(objects: &[ParsedInputObject<P>]) -> u128
+fn section_total<P: Platform>(objects: &[ParsedInputObject<P>]) -> u128
     requires { length objects.now < 2 ^ 25 }
-    ensures { result ≡ section_count objects.now }
+    ensures { result ≡ section_total objects.now }
 {
     let mut count = 0u128;
     for object in objects {
@@ -217,7 +223,7 @@ fn section_count<P: Platform>(objects: &[ParsedInputObject<P>]) -> u128
 }
 
 fn sections_of<P: Platform>(object: &ParsedInputObject<P>) -> u128
-    ensures value { result ≡ (if object.now.object.is_dynamic then 0 else object.now.object.sections) }
+    ensures value { result ≡ sections_of object.now }
     ensures fits { result < 2 ^ 32 }
 {
     if object.is_dynamic() {

@@ -7,7 +7,7 @@ ghost use Rattle.link_rules.specs.Plain.Lists.{first_definition};
 ghost use Rattle.link_rules.specs.Plain.Loading.{target};
 ghost use Rattle.link_rules.specs.Plain.Rivals.{loaded_definitions};
 ghost use Rattle.link_rules.specs.Plain.Undefined.{canonical_undefined};
-ghost use Rattle.link_rules.specs.Plain.Table.{table_of, definition};
+ghost use Rattle.link_rules.specs.Plain.Table.{table_of};
 
 use crate::names::{LoadedDefinitions, is_loaded};
 use crate::symbols::{is_definition, is_listed, is_reference};
@@ -82,12 +82,4 @@ fn choice(first: Option<u32>, known: Option<LoadedDefinitions>) -> Option<u32>
         Some(known) => Some(known.first),
         None => first,
     }
-}
-
-/// What a symbol means: two steps through the table.
-pub fn definition(table: &[u32], id: usize) -> u32
-    ensures { result ≡ definition table.now id }
-{
-    let next = table.get(id).copied().unwrap_or(0);
-    table.get(next as usize).copied().unwrap_or(0)
 }

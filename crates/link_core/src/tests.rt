@@ -27,16 +27,18 @@ fn entry(
     })
 }
 
-// An object of a null entry and one global symbol, which may be a member of an archive.
+// An object of a null entry and global symbols of one name, which may be a member of an archive.
 fn object(
     alloc: Global,
     file: &str,
     archive: bool,
-    place: Place,
+    places: &[Place],
 ) -> Result<ParsedInputObject<ElfLike>, TableError> {
     let mut symbols = Seq::new(alloc);
     symbols.push(entry(alloc, "", SymbolBinding::Local, Place::Undefined)?)?;
-    symbols.push(entry(alloc, "foo", SymbolBinding::Global, place)?)?;
+    for place in places {
+        symbols.push(entry(alloc, "foo", SymbolBinding::Global, *place)?)?;
+    }
     let table = ObjectTable {
         is_dynamic: false,
         lib_name: Name::from_slice(alloc, file.as_bytes())?,
@@ -58,8 +60,8 @@ fn object(
 // Two objects: one with an undefined foo, or with a definition of its own, and one that defines foo.
 fn two_objects(alloc: Global, first: Place, archive: bool) -> Result<Inputs<ElfLike>, TableError> {
     let mut objects = Seq::new(alloc);
-    objects.push(object(alloc, "main.o", false, first)?)?;
-    objects.push(object(alloc, "a.o", archive, Place::Section(1))?)?;
+    objects.push(object(alloc, "main.o", false, &[first])?)?;
+    objects.push(object(alloc, "a.o", archive, &[Place::Section(1)])?)?;
     Ok(Inputs {
         objects,
         scripts: Seq::new(alloc),
@@ -73,7 +75,7 @@ fn an_answer_and_each_refusal(rt: HostRuntime) -> Result<(), Fail> {
     let asked = two_objects(alloc, Place::Undefined, true)?;
     let linked = link_symbols(alloc, asked, Options::new(alloc), 2);
     assert!(rt;
-        matches!(&linked, Ok(linked) if linked.loaded.len() == 2 && linked.symbols.len() == 5)
+        matches!(&linked, Ok(linked) if linked.loaded.len() == 2 && linked.table.len() == 5)
     );
     let clash = two_objects(alloc, Place::Section(1), false)?;
     let refused = link_symbols(alloc, clash, Options::new(alloc), 1);
@@ -89,5 +91,37 @@ fn an_answer_and_each_refusal(rt: HostRuntime) -> Result<(), Fail> {
             Err(LinkError::NoInputs)
         )
     );
+    Ok(())
+}
+
+#[test]
+fn the_last_of_equal_references_stands_for_them(rt: HostRuntime) -> Result<(), Fail> {
+    let alloc = rt.alloc();
+    let mut objects = Seq::new(alloc);
+    let twice = [Place::Undefined, Place::Undefined];
+    objects.push(object(alloc, "m.o", false, &twice)?)?;
+    let inputs = Inputs {
+        objects,
+        scripts: Seq::new(alloc),
+        stubs: Seq::new(alloc),
+    };
+    let linked = link_symbols(alloc, inputs, Options::new(alloc), 2)
+        .ok()
+        .ok_or("a link")?;
+    let wanted = [
+        "0 [ABSOLUTE]",
+        "0 [ABSOLUTE | NON_INTERPOSABLE]",
+        "3 [ABSOLUTE]",
+        "3 [ABSOLUTE | NON_INTERPOSABLE]",
+    ];
+    assert_eq!(rt; linked.table.len(), wanted.len());
+    let meanings = linked.table.as_slice().iter();
+    for ((meaning, flags), want) in meanings.zip(linked.flags.as_slice()).zip(wanted) {
+        let got = format!(in alloc; "{meaning} [{flags}]")?;
+        assert_eq!(rt; got.as_str(), want);
+    }
+    let undefined = linked.undefined.as_slice();
+    assert_eq!(rt; undefined.len(), 1);
+    assert_eq!(rt; undefined[0].symbol.as_usize(), 3);
     Ok(())
 }

@@ -25,6 +25,9 @@ pub fn refusal_text(alloc: Global, error: &LinkError) -> Result<Vec<u8>, AllocEr
             let text = format!(in alloc; "Too many {kind}: {count}")?;
             Ok(text.into_bytes())
         }
+        LinkError::LateVersionScript(_) => {
+            Vec::from_slice(alloc, b"Version script in a later batch")
+        }
         LinkError::NoInputs => Vec::from_slice(alloc, b"no input files"),
         LinkError::SectionInTwoGroups { file, section } => two_groups_text(alloc, file, *section),
         LinkError::DuplicateSymbols(lines) => duplicates_text(alloc, lines.as_slice()),

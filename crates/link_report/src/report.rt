@@ -1,11 +1,14 @@
 // The report of a link.
-ghost use Rattle.std.specs.Prelude.{◌≡◌, ◌++◌, IfOk, OnOk, string_bytes};
+ghost use Rattle.std.specs.Prelude.{◌≡◌, ◌++◌, IfOk, OnOk, codes, decimal, slice_index, string_bytes};
 ghost use Rattle.std.specs.List.{flat_map};
+ghost use Rattle.link_ids.specs.FlagText.{flags_text};
 ghost use Rattle.link_rules.specs.Places.{each_from};
-ghost use Rattle.link_rules.specs.Report.{loaded_line, kept_line, symbol_line, symbol_name, version_line, version_text, undefined_line, missing_line, joined_lines, report_text};
+ghost use Rattle.link_rules.specs.Rivals.{two_steps};
+ghost use Rattle.link_rules.specs.Report.{loaded_line, kept_line, flags_at, symbol_line, symbol_name, version_line, version_text, undefined_line, missing_line, joined_lines, report_text};
 
-use link_ids::Name;
-use link_rules::{GivenVersion, KeptGroup, Linked, LinkedSymbol, LoadedObject, UndefinedName};
+use bitflags::Flags;
+use link_ids::{Name, SymbolId, ValueFlags};
+use link_rules::{GivenVersion, KeptGroup, Linked, LoadedObject, UndefinedName};
 use std::alloc::{AllocError, Global};
 use std::fmt::Write;
 
@@ -18,7 +21,12 @@ pub fn report_text(alloc: Global, linked: &Linked) -> Result<Vec<u8>, AllocError
     let mut text = String::new(alloc);
     write_loaded_lines(&mut text, linked.loaded.as_slice())?;
     write_kept_lines(&mut text, linked.kept.as_slice())?;
-    write_symbol_lines(&mut text, linked.symbols.as_slice())?;
+    write_symbol_lines(
+        &mut text,
+        linked.names.as_slice(),
+        linked.table.as_slice(),
+        linked.flags.as_slice(),
+    )?;
     write_version_lines(&mut text, linked.versions.as_slice())?;
     write_undefined_lines(&mut text, linked.undefined.as_slice())?;
     write_missing_lines(&mut text, linked.missing.as_slice())?;
@@ -64,22 +72,60 @@ fn write_kept_line(text: &mut String, group: &KeptGroup) -> Result<(), AllocErro
 }
 
 // Adds the lines of the symbols, of which the first has the id 0.
-fn write_symbol_lines(text: &mut String, symbols: &[LinkedSymbol]) -> Result<(), AllocError>
-    ensures { OnOk result (string_bytes text.new ≡ string_bytes text.old ++ joined_lines (each_from symbol_line 0 symbols.now)) }
+fn write_symbol_lines(
+    text: &mut String,
+    names: &[Name],
+    table: &[SymbolId],
+    flags: &[ValueFlags],
+) -> Result<(), AllocError>
+    ensures { OnOk result (string_bytes text.new ≡ string_bytes text.old ++ joined_lines (each_from (symbol_line table.now flags.now) 0 names.now)) }
 {
-    for (id, symbol) in symbols.iter().enumerate() {
-        write_symbol_line(text, id, symbol)?;
+    for (id, name) in names.iter().enumerate() {
+        write_symbol_line(text, id, name, definition(table, id), flags_at(flags, id))?;
     }
     Ok(())
 }
 
+// What a symbol means: two steps through the table. A symbol that is not in the table means the undefined one.
+fn definition(table: &[SymbolId], id: usize) -> SymbolId
+    ensures { result ≡ two_steps table.now id }
+{
+    entry(table, entry(table, id).as_usize())
+}
+
+// The symbol that a symbol points to.
+fn entry(table: &[SymbolId], id: usize) -> SymbolId
+    ensures { result ≡ slice_index table.now id }
+{
+    match table.get(id) {
+        Some(entry) => *entry,
+        None => SymbolId::undefined(),
+    }
+}
+
+// The flags of a symbol; none where they are not given.
+fn flags_at(flags: &[ValueFlags], id: usize) -> ValueFlags
+    ensures { result.0 ≡ flags_at flags.now id }
+{
+    match flags.get(id) {
+        Some(flags) => *flags,
+        None => ValueFlags::empty(),
+    }
+}
+
 // Adds the line of a symbol.
-fn write_symbol_line(text: &mut String, id: usize, symbol: &LinkedSymbol) -> Result<(), AllocError>
-    ensures { OnOk result (string_bytes text.new ≡ string_bytes text.old ++ symbol_line id symbol.now) }
+fn write_symbol_line(
+    text: &mut String,
+    id: usize,
+    name: &Name,
+    definition: SymbolId,
+    flags: ValueFlags,
+) -> Result<(), AllocError>
+    ensures { OnOk result (string_bytes text.new ≡ string_bytes text.old ++ (codes "symbol " ++ decimal id ++ codes " " ++ symbol_name name.now ++ codes " -> " ++ decimal definition ++ codes " [" ++ flags_text flags.0 ++ codes "]\n")) }
 {
     write!(text, "symbol {id} ")?;
-    write_symbol_name(text, &symbol.name)?;
-    writeln!(text, " -> {} [{}]", symbol.definition, symbol.flags)
+    write_symbol_name(text, name)?;
+    writeln!(text, " -> {definition} [{flags}]")
 }
 
 // Adds the name of a symbol.

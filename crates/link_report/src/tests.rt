@@ -4,8 +4,7 @@ use bitflags::Flags;
 use link_ids::{Name, Seq, SymbolId, ValueFlags};
 use link_input::TooManyKind;
 use link_rules::{
-    GivenVersion, KeptGroup, LinkError, Linked, LinkedSymbol, LoadedObject, ScriptOrigin,
-    UndefinedName,
+    GivenVersion, KeptGroup, LinkError, Linked, LoadedObject, ScriptOrigin, UndefinedName,
 };
 use link_script::{Language, ScriptError, ScriptErrorKind};
 use std::alloc::{AllocError, Global};
@@ -19,7 +18,7 @@ const DOWNGRADE_TO_LOCAL: u32 = 0x10;
 
 const HAS_NON_IR_REF: u32 = 0x1_0000;
 
-/// The answer with these loaded objects, these symbols, each with the number that it means and the
+/// The answer with these loaded objects, these symbols, each with the number that it points to and the
 /// bits of its flags, and these undefined names.
 fn linked(
     alloc: Global,
@@ -30,7 +29,9 @@ fn linked(
     let mut answer = Linked {
         loaded: Seq::new(alloc),
         kept: Seq::new(alloc),
-        symbols: Seq::new(alloc),
+        names: Seq::new(alloc),
+        table: Seq::new(alloc),
+        flags: Seq::new(alloc),
         versions: Seq::new(alloc),
         undefined: Seq::new(alloc),
         missing: Seq::new(alloc),
@@ -42,11 +43,11 @@ fn linked(
         })?;
     }
     for (name, definition, flags) in symbols {
-        answer.symbols.push(LinkedSymbol {
-            name: Name::from_slice(alloc, name)?,
-            definition: SymbolId::from_usize(*definition as usize),
-            flags: ValueFlags::from_bits_retain(*flags),
-        })?;
+        answer.names.push(Name::from_slice(alloc, name)?)?;
+        answer
+            .table
+            .push(SymbolId::from_usize(*definition as usize))?;
+        answer.flags.push(ValueFlags::from_bits_retain(*flags))?;
     }
     for (symbol, name) in undefined {
         answer.undefined.push(UndefinedName {
@@ -272,6 +273,10 @@ fn the_text_of_a_script_that_is_none(rt: HostRuntime) -> Result<(), Fail> {
         (
             LinkError::MultipleVersionScripts(1),
             b"Multiple version scripts provided".as_slice(),
+        ),
+        (
+            LinkError::LateVersionScript(0),
+            b"Version script in a later batch".as_slice(),
         ),
     ];
     assert_eq!(rt; all_told(alloc, rows.as_slice())?, None);

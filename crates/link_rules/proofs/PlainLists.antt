@@ -11,46 +11,67 @@ use Rattle.link_input.specs.ObjectFile.{ObjectFile}
 use Rattle.link_input.specs.PreludeSymbols.{undefined_symbol}
 use Rattle.link_rules.specs.Places.{Bytes, places_from, kept_if, first_of}
 use Rattle.link_rules.specs.Rules.{elf_like}
-use Rattle.link_rules.specs.World.{Given, World, world_of, Source, in_prelude, in_object, in_script, in_stub, Symbol, symbols_of, symbol_of, object_symbols, object_symbol, is_shared, is_reference}
+use Rattle.link_input.specs.InputFiles.{Batch, object, batch_files, prelude_file}
+use Rattle.link_input.specs.Symbols.{Symbol, Origin, in_prelude, in_object, in_script, in_stub, symbol_of, object_symbol, file_symbols, symbols_of, is_shared}
+use Rattle.link_rules.specs.World.{Given, Stage, first_stage, world_of, is_reference}
 use Rattle.link_rules.specs.Names.{is_listed, is_version_listed, is_defining, definitions_of, first_definition}
-use Rattle.link_rules.specs.Targets.{target, target_beside}
-use Rattle.link_rules.specs.Loading.{is_source_loaded}
+use Rattle.link_rules.specs.Targets.{target, name_table, beside_in, is_open}
+use Rattle.link_rules.specs.Loading.{is_origin_loaded}
 use Rattle.link_rules.specs.Plain.World as today
 use Rattle.link_rules.specs.Plain.Lists as lists
 use Rattle.link_rules.specs.Plain.Loading as loading
 use Rattle.link_rules.specs.PlainWorld.{IsPlainLink, IsPlainObject, IsPlainEntry}
-use Rattle.link_rules.proofs.PlainSeen.{seen, IsPlainSource, IsPlainSymbol}
+use Rattle.link_rules.proofs.PlainSeen.{seen, IsPlainOrigin, IsPlainSymbol}
 
 -- a link of objects alone, with the options of a static executable
 abbrev pub plain_given : List ObjectFile → ℕ → Given
 plain_given objects n = record {
-  objects = objects;
-  scripts = [];
-  stubs = [];
+  first = record { objects = objects; scripts = []; stubs = [] };
+  later = [];
   options = record default_options { files_per_group = n };
   texts = record { version_script = None; export_list = None };
 }
 
 -- a plain link is given by its objects and the size of their groups
-pub given-plain : (given : Given) → IsPlainLink given → given ≡ plain_given given.objects given.options.files_per_group
+pub given-plain : (given : Given) → IsPlainLink given → given ≡ plain_given given.first.objects given.options.files_per_group
 given-plain given plain =
-    ap (λ s. record { objects = given.objects; scripts = s; stubs = given.stubs; options = given.options; texts = given.texts }) plain.scripts
-    ∙ ap (λ s. record { objects = given.objects; scripts = []; stubs = s; options = given.options; texts = given.texts }) plain.stubs
-    ∙ ap (λ o. record { objects = given.objects; scripts = []; stubs = []; options = o; texts = given.texts }) plain.options
-    ∙ ap (λ t. record { objects = given.objects; scripts = []; stubs = []; options = record default_options { files_per_group = given.options.files_per_group }; texts = t }) plain.texts
+    let first : Batch = record { objects = given.first.objects; scripts = []; stubs = [] } in
+    ap (λ s. record { first = record { objects = given.first.objects; scripts = s; stubs = given.first.stubs }; later = given.later; options = given.options; texts = given.texts }) plain.scripts
+    ∙ ap (λ s. record { first = record { objects = given.first.objects; scripts = []; stubs = s }; later = given.later; options = given.options; texts = given.texts }) plain.stubs
+    ∙ ap (λ l. record { first = first; later = l; options = given.options; texts = given.texts }) plain.later
+    ∙ ap (λ o. record { first = first; later = []; options = o; texts = given.texts }) plain.options
+    ∙ ap (λ t. record { first = first; later = []; options = record default_options { files_per_group = given.options.files_per_group }; texts = t }) plain.texts
+
+-- the stage of the first batch
+abbrev pub plain_stage : (Bytes → Bytes) → Given → Stage
+plain_stage demangle given = first_stage (world_of elf_like demangle given)
+
+-- its symbols
+abbrev pub given_symbols : Given → List Symbol
+given_symbols given = file_symbols 0 (prelude_file given.options) ++ symbols_of 0 (batch_files given.first)
 
 -- what holds of objects alone holds of a plain link
 pub of-plain_given : (P : Given → Type 0) → ((objects : List ObjectFile) (n : ℕ) → AllByRecursion IsPlainObject objects → P (plain_given objects n))
     → (given : Given) → IsPlainLink given → P given
-of-plain_given P each given plain = subst P (sym (given-plain given plain)) (each given.objects given.options.files_per_group plain.objects)
+of-plain_given P each given plain = subst P (sym (given-plain given plain)) (each given.first.objects given.options.files_per_group plain.objects)
 
 -- the first symbol of all
 abbrev pub first_symbol : Symbol
 first_symbol = symbol_of undefined_symbol.name (in_prelude undefined_symbol)
 
+-- the symbols of objects, of which the first has this place
+abbrev pub object_symbols : ℕ → List ObjectFile → List Symbol
+object_symbols n [] = []
+object_symbols n (o ∷ os) = map (object_symbol n o) o.object.symbols ++ object_symbols (n + 1) os
+
+-- the symbols of objects as files
+files-plain : (n : ℕ) (os : List ObjectFile) → symbols_of n (map object os) ≡ object_symbols n os
+files-plain n [] = refl
+files-plain n (o ∷ os) = ap (λ xs. map (object_symbol n o) o.object.symbols ++ xs) (files-plain (n + 1) os)
+
 -- the symbols of objects alone
-pub symbols-plain : (objects : List ObjectFile) (n : ℕ) → symbols_of (plain_given objects n) ≡ first_symbol ∷ object_symbols 0 objects
-symbols-plain objects n = ap (λ xs. first_symbol ∷ xs) (append-nil (object_symbols 0 objects ++ []) ∙ append-nil (object_symbols 0 objects))
+pub symbols-plain : (objects : List ObjectFile) (n : ℕ) → given_symbols (plain_given objects n) ≡ first_symbol ∷ object_symbols 0 objects
+symbols-plain objects n = ap (λ xs. first_symbol ∷ xs) (ap (λ fs. symbols_of 0 fs) (append-nil (map object objects)) ∙ files-plain 0 objects)
 
 -- ---- each symbol is plain
 
@@ -64,7 +85,7 @@ entries-plain : (n : ℕ) (o : ObjectFile) → o.object.is_dynamic ≡ false →
     → AllByRecursion IsPlainSymbol (map (object_symbol n o) es)
 entries-plain n o regular [] plain = tt
 entries-plain n o regular (e ∷ es) plain =
-    (record { source = (regular, refl, plain.0); version = plain.0.version }, entries-plain n o regular es plain.1)
+    (record { origin = (regular, refl, plain.0); version = plain.0.version }, entries-plain n o regular es plain.1)
 
 -- the symbols of plain objects are plain
 objects-plain : (n : ℕ) (os : List ObjectFile) → AllByRecursion IsPlainObject os → AllByRecursion IsPlainSymbol (object_symbols n os)
@@ -74,11 +95,11 @@ objects-plain n (o ∷ os) plain = all-append IsPlainSymbol (map (object_symbol 
 
 -- the undefined symbol is plain
 first-plain : IsPlainSymbol first_symbol
-first-plain = record { source = (refl, refl); version = refl }
+first-plain = record { origin = (refl, refl); version = refl }
 
 -- each symbol of a plain link is plain
-pub plain-symbols : (given : Given) → IsPlainLink given → AllByRecursion IsPlainSymbol (symbols_of given)
-plain-symbols = of-plain_given (λ given. AllByRecursion IsPlainSymbol (symbols_of given))
+pub plain-symbols : (given : Given) → IsPlainLink given → AllByRecursion IsPlainSymbol (given_symbols given)
+plain-symbols = of-plain_given (λ given. AllByRecursion IsPlainSymbol (given_symbols given))
     (λ objects n plain. subst (AllByRecursion IsPlainSymbol) (sym (symbols-plain objects n)) (first-plain, objects-plain 0 objects plain))
 
 -- ---- the words of today see the same symbols
@@ -101,8 +122,8 @@ objects-seen n (o ∷ os) = map-append seen (map (object_symbol n o) o.object.sy
     ∙ ap (λ xs. map (today.symbol_of n) o.object.symbols ++ xs) (objects-seen (n + 1) os)
 
 -- the symbols of a plain link are those that the words of today see
-pub seen-symbols : (given : Given) → IsPlainLink given → map seen (symbols_of given) ≡ today.symbols_of given.objects
-seen-symbols = of-plain_given (λ given. map seen (symbols_of given) ≡ today.symbols_of given.objects)
+pub seen-symbols : (given : Given) → IsPlainLink given → map seen (given_symbols given) ≡ today.symbols_of given.first.objects
+seen-symbols = of-plain_given (λ given. map seen (given_symbols given) ≡ today.symbols_of given.first.objects)
     (λ objects n plain. ap (map seen) (symbols-plain objects n) ∙ ap (λ xs. today.undefined_symbol ∷ xs) (objects-seen 0 objects))
 
 -- ---- one symbol
@@ -118,8 +139,8 @@ listed-bools undefined local shared hidden default s d = rw (s, d) (by_cases und
     by_cases false false = refl
 
 -- a plain symbol of a name and a source is found by its name where the words of today say so
-listed-source : (name : Bytes) (version : Option Bytes) (source : Source) → IsPlainSource name source
-    → is_listed (record { name = name; version = version; source = source }) ≡ lists.is_listed (seen (record { name = name; version = version; source = source }))
+listed-source : (name : Bytes) (version : Option Bytes) (source : Origin) → IsPlainOrigin name source
+    → is_listed (record { name = name; version = version; origin = source }) ≡ lists.is_listed (seen (record { name = name; version = version; origin = source }))
 listed-source name version (in_prelude d) plain = ap (λ (d : InternalSymDefInfo). is_defining d.placement) plain.0
 listed-source name version (in_object n shared e) plain =
     listed-bools (is_undefined e.place) (is_local e.binding) shared (is_hidden e.visibility) e.is_default plain.0 plain.2.default
@@ -128,7 +149,7 @@ listed-source name version (in_stub strength) plain = absurd plain
 
 -- a plain symbol is found by its name where the words of today say so
 pub listed-same : (x : Symbol) → IsPlainSymbol x → is_listed x ≡ lists.is_listed (seen x)
-listed-same x plain = listed-source x.name x.version x.source plain.source
+listed-same x plain = listed-source x.name x.version x.origin plain.origin
 
 -- a test, and one that holds
 pub and-true : (b : Bool) → (b && true) ≡ b
@@ -141,8 +162,8 @@ and-false true = refl
 and-false false = refl
 
 -- a plain symbol of a name and a source is a reference where the words of today say so
-reference-source : (name : Bytes) (version : Option Bytes) (source : Source) → IsPlainSource name source
-    → is_reference (record { name = name; version = version; source = source }) ≡ today.is_reference (seen (record { name = name; version = version; source = source }))
+reference-source : (name : Bytes) (version : Option Bytes) (source : Origin) → IsPlainOrigin name source
+    → is_reference (record { name = name; version = version; origin = source }) ≡ today.is_reference (seen (record { name = name; version = version; origin = source }))
 reference-source name version (in_prelude d) plain = refl
 reference-source name version (in_object n shared e) plain =
     ap (λ s. is_undefined e.place && not (is_local e.binding) && not (s && is_hidden e.visibility)) plain.0
@@ -152,25 +173,25 @@ reference-source name version (in_stub strength) plain = absurd plain
 
 -- a plain symbol is a reference where the words of today say so
 pub reference-same : (x : Symbol) → IsPlainSymbol x → is_reference x ≡ today.is_reference (seen x)
-reference-same x plain = reference-source x.name x.version x.source plain.source
+reference-same x plain = reference-source x.name x.version x.origin plain.origin
 
 -- no plain symbol is found by a version
 pub version-listed-none : (x : Symbol) → IsPlainSymbol x → is_version_listed x ≡ false
 version-listed-none x plain = rw plain.version (and-false _)
 
 -- no plain source is shared
-shared-source : (name : Bytes) (source : Source) → IsPlainSource name source → is_shared source ≡ false
+shared-source : (name : Bytes) (source : Origin) → IsPlainOrigin name source → is_shared source ≡ false
 shared-source name (in_prelude d) plain = refl
 shared-source name (in_object n shared e) plain = plain.0
 shared-source name (in_script d) plain = absurd plain
 shared-source name (in_stub strength) plain = absurd plain
 
 -- no plain symbol stands in a shared file
-pub shared-none : (x : Symbol) → IsPlainSymbol x → is_shared x.source ≡ false
-shared-none x plain = shared-source x.name x.source plain.source
+pub shared-none : (x : Symbol) → IsPlainSymbol x → is_shared x.origin ≡ false
+shared-none x plain = shared-source x.name x.origin plain.origin
 
 -- the file of a symbol is loaded where the words of today say so
-pub loaded-same : (marks : List Bool) (x : Symbol) → IsPlainSymbol x → is_source_loaded marks x.source ≡ loading.is_loaded marks (seen x)
+pub loaded-same : (marks : List Bool) (x : Symbol) → IsPlainSymbol x → is_origin_loaded marks x.origin ≡ loading.is_loaded marks (seen x)
 loaded-same marks x plain = refl
 
 -- ---- the definitions of a name
@@ -184,44 +205,44 @@ places-same name i (x ∷ xs) plain =
     ∙ ap (kept_if (lists.defines name (seen x)) i) (places-same name (i + 1) xs plain.1)
 
 -- the definitions of a name in a plain link are those that the words of today find
-pub definitions-same : (demangle : Bytes → Bytes) (given : Given) → IsPlainLink given → (name : Bytes)
-    → definitions_of (world_of elf_like demangle given) name ≡ lists.definitions_of (today.symbols_of given.objects) name
-definitions-same demangle given plain name =
-    places-same name 0 (symbols_of given) (plain-symbols given plain)
+pub definitions-same : (given : Given) → IsPlainLink given → (name : Bytes)
+    → definitions_of (given_symbols given) name ≡ lists.definitions_of (today.symbols_of given.first.objects) name
+definitions-same given plain name =
+    places-same name 0 (given_symbols given) (plain-symbols given plain)
     ∙ ap (λ symbols. lists.definitions_of symbols name) (seen-symbols given plain)
 
 -- without wraps a name is mapped to its first definition
-unwrapped : (demangle : Bytes → Bytes) (given : Given) → IsPlainLink given → (name : Bytes)
-    → first_definition (world_of elf_like demangle given) name ≡ first_of (definitions_of (world_of elf_like demangle given) name)
-unwrapped demangle given plain name = of-plain_given
-    (λ g. first_definition (world_of elf_like demangle g) name ≡ first_of (definitions_of (world_of elf_like demangle g) name))
+without-wraps : (demangle : Bytes → Bytes) (given : Given) → IsPlainLink given → (name : Bytes)
+    → first_definition (plain_stage demangle given) name ≡ first_of (definitions_of (given_symbols given) name)
+without-wraps demangle given plain name = of-plain_given
+    (λ g. first_definition (plain_stage demangle g) name ≡ first_of (definitions_of (given_symbols g) name))
     (λ objects n all. refl) given plain
 
 -- a name in a plain link is mapped to what the words of today map it to
 pub first-same : (demangle : Bytes → Bytes) (given : Given) → IsPlainLink given → (name : Bytes)
-    → first_definition (world_of elf_like demangle given) name ≡ lists.first_definition (today.symbols_of given.objects) name
-first-same demangle given plain name = unwrapped demangle given plain name ∙ ap (λ ids. first_of ids) (definitions-same demangle given plain name)
+    → first_definition (plain_stage demangle given) name ≡ lists.first_definition (today.symbols_of given.first.objects) name
+first-same demangle given plain name = without-wraps demangle given plain name ∙ ap (λ ids. first_of ids) (definitions-same given plain name)
 
 -- ---- what a reference stands for
 
 -- a plain reference of a name and a source keeps what its name is mapped to
-beside-source : (w : World) (name : Bytes) (version : Option Bytes) (source : Source) (t : ℕ) → IsPlainSource name source
-    → target_beside w (record { name = name; version = version; source = source }) t ≡ Some t
+beside-source : (w : Stage) (name : Bytes) (version : Option Bytes) (source : Origin) (t : ℕ) → IsPlainOrigin name source
+    → beside_in w.rules.weak_overrides_common (name_table w) (is_open (record { name = name; version = version; origin = source })) t ≡ Some t
 beside-source w name version (in_prelude d) t plain = refl
 beside-source w name version (in_object n shared e) t plain = rw plain.2.visibility refl
 beside-source w name version (in_script d) t plain = absurd plain
 beside-source w name version (in_stub strength) t plain = absurd plain
 
 -- a plain reference has as its target what its name is mapped to
-target-of : (w : World) (x : Symbol) (o : Option ℕ) → IsPlainSymbol x → option_and_then (target_beside w x) o ≡ o
+target-of : (w : Stage) (x : Symbol) (o : Option ℕ) → IsPlainSymbol x → option_and_then (beside_in w.rules.weak_overrides_common (name_table w) (is_open x)) o ≡ o
 target-of w x None plain = refl
-target-of w x (Some t) plain = beside-source w x.name x.version x.source t plain.source
+target-of w x (Some t) plain = beside-source w x.name x.version x.origin t plain.origin
 
 -- a reference of a plain link stands for what the words of today say
 pub target-same : (demangle : Bytes → Bytes) (given : Given) → IsPlainLink given → (x : Symbol) → IsPlainSymbol x → is_reference x ≡ true
-    → target (world_of elf_like demangle given) x ≡ loading.target (today.symbols_of given.objects) (seen x)
+    → target (plain_stage demangle given) x ≡ loading.target (today.symbols_of given.first.objects) (seen x)
 target-same demangle given link x plain refers =
-    let w = world_of elf_like demangle given in
+    let w = plain_stage demangle given in
     let asks : today.is_reference (seen x) ≡ true = sym (reference-same x plain) ∙ refers in
-    let named : target w x ≡ option_and_then (target_beside w x) (first_definition w x.name) = rw plain.version refl in
+    let named : target w x ≡ option_and_then (beside_in w.rules.weak_overrides_common (name_table w) (is_open x)) (first_definition w x.name) = rw plain.version refl in
     named ∙ target-of w x (first_definition w x.name) plain ∙ first-same demangle given link x.name ∙ rw asks refl

@@ -17,12 +17,12 @@ use Rattle.link_rules.specs.declared.symbol.Symbol.{Symbol as PlainSymbol}
 use Rattle.link_rules.specs.declared.refusal.LinkError.{LinkError}
 use Rattle.link_rules.specs.declared.refusal.LinkError.TheVariants.{DuplicateSymbols}
 use Rattle.link_rules.specs.Places.{Bytes, are_several, first_of, first_two, is_number, some_from}
-use Rattle.link_rules.specs.Rules.{elf_like}
-use Rattle.link_rules.specs.World.{World, Symbol, Source, in_prelude, in_object, in_script, in_stub, world_of, is_shared, object_of}
+use Rattle.link_input.specs.Symbols.{Symbol, Origin, in_prelude, in_object, in_script, in_stub, is_shared}
+use Rattle.link_rules.specs.World.{Stage, object_of}
 use Rattle.link_rules.specs.Names.{is_listed, is_defining, definitions_of}
-use Rattle.link_rules.specs.Loading.{is_source_loaded}
+use Rattle.link_rules.specs.Loading.{is_origin_loaded}
 use Rattle.link_rules.specs.Comdat.{groups_of, placed_group, discarded_groups, is_discarded_by, is_kept_among, comdats_among}
-use Rattle.link_rules.specs.Selection.{Selection, selection_of, surviving_source, surviving_strength, is_dynamic}
+use Rattle.link_rules.specs.Selection.{Selection, selection_of, surviving_origin, surviving_strength, is_dynamic}
 use Rattle.link_rules.specs.Rivals.{clash, static_entries, plain_list, versioned_list, stand_in, plain_table}
 use Rattle.link_rules.specs.Undefined.{resolution_of}
 use Rattle.link_rules.specs.Refusals.{late_refusal, group_refusal, group_cause, line_at_head, plain_duplicates, versioned_duplicates, duplicate_line, unless_none}
@@ -33,20 +33,20 @@ use Rattle.link_rules.specs.Plain.World as today
 use Rattle.link_rules.specs.Plain.Lists as lists
 use Rattle.link_rules.specs.Plain.Loading as loading
 use Rattle.link_rules.specs.Plain.Rivals as rivals
-use Rattle.link_rules.proofs.PlainSeen.{seen, IsPlainSource, IsPlainSymbol}
-use Rattle.link_rules.proofs.PlainLists.{plain_given, plain-symbols, seen-symbols, listed-same, shared-none, definitions-same, version-listed-none}
+use Rattle.link_rules.proofs.PlainSeen.{seen, IsPlainOrigin, IsPlainSymbol}
+use Rattle.link_rules.proofs.PlainLists.{plain_given, plain_stage, plain-symbols, seen-symbols, listed-same, shared-none, definitions-same, version-listed-none}
 use Rattle.link_rules.proofs.PlainLoading.{symbol-at, object-same}
 use Rattle.link_rules.proofs.PlainPlaces.{all-places, places-map, places-filtered, filter-all, few-none, first_two-places, some-same, some-map, some-numbered, some-none, filter_map-none}
 use Rattle.link_rules.proofs.SortedOnce.{sorted-once}
 use Rattle.link_rules.proofs.SortedTexts.{sorted_texts-sorted}
 
--- the world of objects alone
-abbrev pub world_over : (Bytes → Bytes) → List ObjectFile → ℕ → World
-world_over demangle objects n = world_of elf_like demangle (plain_given objects n)
+-- the stage of objects alone
+abbrev pub world_over : (Bytes → Bytes) → List ObjectFile → ℕ → Stage
+world_over demangle objects n = plain_stage demangle (plain_given objects n)
 
 -- plain objects alone are a plain link
 pub link-over : (objects : List ObjectFile) (n : ℕ) → AllByRecursion IsPlainObject objects → IsPlainLink (plain_given objects n)
-link-over objects n plain = record { objects = plain; scripts = refl; stubs = refl; options = refl; texts = refl }
+link-over objects n plain = record { objects = plain; scripts = refl; stubs = refl; later = refl; options = refl; texts = refl }
 
 -- ---- no groups
 
@@ -85,9 +85,9 @@ entry-strong : (e : SymbolEntry) → IsPlainEntry e → binding_strength e ≡ S
 entry-strong e plain = rw (plain.not_weak, plain.not_common, plain.not_unique) refl
 
 -- a plain definition that is found by its name is strong where it is loaded, and else nothing
-strength-source : (marks : List Bool) (name : Bytes) (version : Option Bytes) (source : Source) → IsPlainSource name source
-    → is_listed (record { name = name; version = version; source = source }) ≡ true
-    → surviving_source marks [] source ≡ cond (is_source_loaded marks source) Strong Undefined
+strength-source : (marks : List Bool) (name : Bytes) (version : Option Bytes) (source : Origin) → IsPlainOrigin name source
+    → is_listed (record { name = name; version = version; origin = source }) ≡ true
+    → surviving_origin marks [] source ≡ cond (is_origin_loaded marks source) Strong Undefined
 strength-source marks name version (in_prelude d) plain listed = absurd (not_defined (sym (ap (λ (d : _). is_defining d.placement) plain.0) ∙ listed))
   where
     not_defined : false ≡ true → ⊥
@@ -105,7 +105,7 @@ strong-loaded false = refl
 
 module _ (demangle : Bytes → Bytes) (objects : List ObjectFile) (n : ℕ) (marks : List Bool) (plain : AllByRecursion IsPlainObject objects) where
   -- the world
-  abbrev whole : World
+  abbrev whole : Stage
   whole = world_over demangle objects n
 
   -- the world with its loaded objects
@@ -128,7 +128,7 @@ module _ (demangle : Bytes → Bytes) (objects : List ObjectFile) (n : ℕ) (mar
   pub dynamic-none : (s : ℕ) → is_dynamic chosen s ≡ false
   dynamic-none s = by_symbol (slice_get whole.symbols s) refl
     where
-      by_symbol : (o : Option Symbol) → slice_get whole.symbols s ≡ o → option_map_or (λ (x : Symbol). is_shared x.source) o false ≡ false
+      by_symbol : (o : Option Symbol) → slice_get whole.symbols s ≡ o → option_map_or (λ (x : Symbol). is_shared x.origin) o false ≡ false
       by_symbol None at = refl
       by_symbol (Some x) at = shared-none x (plain-at s x at)
 
@@ -138,18 +138,18 @@ module _ (demangle : Bytes → Bytes) (objects : List ObjectFile) (n : ℕ) (mar
 
   -- how strongly a definition binds by its id
   pub strength-at : (s : ℕ) (x : Symbol) → slice_get whole.symbols s ≡ Some x → is_listed x ≡ true
-      → surviving_strength chosen s ≡ cond (is_source_loaded marks x.source) Strong Undefined
+      → surviving_strength chosen s ≡ cond (is_origin_loaded marks x.origin) Strong Undefined
   strength-at s x at listed =
       let it = plain-at s x at in
       ap (λ o. option_map_or (λ (z : SymbolStrength). z) o Undefined)
-      (slice_get-map (λ (y : Symbol). surviving_source marks (discarded_groups whole marks) y.source) whole.symbols s
-      ∙ ap (λ o. option_map (λ (y : Symbol). surviving_source marks (discarded_groups whole marks) y.source) o) at)
-      ∙ ap (λ d. surviving_source marks d x.source) discarded-none
-      ∙ strength-source marks x.name x.version x.source it.source listed
+      (slice_get-map (λ (y : Symbol). surviving_origin marks (discarded_groups whole marks) y.origin) whole.symbols s
+      ∙ ap (λ o. option_map (λ (y : Symbol). surviving_origin marks (discarded_groups whole marks) y.origin) o) at)
+      ∙ ap (λ d. surviving_origin marks d x.origin) discarded-none
+      ∙ strength-source marks x.name x.version x.origin it.origin listed
 
   -- the strong definitions of a name are those in loaded objects
   pub strong-same : (name : Bytes)
-      → filter (λ s. is_strong (surviving_strength chosen s)) (definitions_of whole name)
+      → filter (λ s. is_strong (surviving_strength chosen s)) (definitions_of whole.symbols name)
       ≡ rivals.loaded_definitions psyms marks name
   strong-same name =
       places-filtered (λ x. is_listed x && bytes_eq x.name name) (λ s. is_strong (surviving_strength chosen s))
@@ -160,28 +160,28 @@ module _ (demangle : Bytes → Bytes) (objects : List ObjectFile) (n : ℕ) (mar
     where
       by_listed : (b : Bool) (s : ℕ) (x : Symbol) → slice_get whole.symbols s ≡ Some x → is_listed x ≡ b
           → (b && bytes_eq x.name name && is_strong (surviving_strength chosen s))
-          ≡ (b && bytes_eq x.name name && is_source_loaded marks x.source)
-      by_listed true s x at is = ap (λ c. bytes_eq x.name name && c) (ap is_strong (strength-at s x at is) ∙ strong-loaded (is_source_loaded marks x.source))
+          ≡ (b && bytes_eq x.name name && is_origin_loaded marks x.origin)
+      by_listed true s x at is = ap (λ c. bytes_eq x.name name && c) (ap is_strong (strength-at s x at is) ∙ strong-loaded (is_origin_loaded marks x.origin))
       by_listed false s x at is = refl
 
       each : (s : ℕ) (x : Symbol) → slice_get whole.symbols s ≡ Some x
           → (is_listed x && bytes_eq x.name name && is_strong (surviving_strength chosen s))
           ≡ (lists.defines name (seen x) && loading.is_loaded marks (seen x))
       each s x at = by_listed (is_listed x) s x at refl
-          ∙ ap (λ b. b && bytes_eq x.name name && is_source_loaded marks x.source) (listed-same x (plain-at s x at))
+          ∙ ap (λ b. b && bytes_eq x.name name && is_origin_loaded marks x.origin) (listed-same x (plain-at s x at))
 
   -- the same two clash
-  pub clash-same : (name : Bytes) → clash chosen (definitions_of whole name)
+  pub clash-same : (name : Bytes) → clash chosen (definitions_of whole.symbols name)
       ≡ rivals.two_of (rivals.loaded_definitions psyms marks name)
   clash-same name =
-      ap (λ entries. first_two (filter (λ s. is_strong (surviving_strength chosen s)) entries)) (static-all (definitions_of whole name))
+      ap (λ entries. first_two (filter (λ s. is_strong (surviving_strength chosen s)) entries)) (static-all (definitions_of whole.symbols name))
       ∙ ap first_two (strong-same name)
       ∙ first_two-places (λ x. lists.defines name x && loading.is_loaded marks x) 0 psyms
 
   -- one definition alone has no rival
-  pub few-same : (name : Bytes) → are_several (definitions_of whole name) ≡ false
+  pub few-same : (name : Bytes) → are_several (definitions_of whole.symbols name) ≡ false
       → rivals.two_of (rivals.loaded_definitions psyms marks name) ≡ None
-  few-same name few = sym (ap (λ ids. rivals.two_of ids) (strong-same name)) ∙ few-none (λ s. is_strong (surviving_strength chosen s)) (definitions_of whole name) few
+  few-same name few = sym (ap (λ ids. rivals.two_of ids) (strong-same name)) ∙ few-none (λ s. is_strong (surviving_strength chosen s)) (definitions_of whole.symbols name) few
 
   -- ---- the lines
 
@@ -216,14 +216,14 @@ module _ (demangle : Bytes → Bytes) (objects : List ObjectFile) (n : ℕ) (mar
 
   -- the line at the head of the definitions of a name
   listed-line : (s : ℕ) (name : Bytes)
-      → line_at_head chosen s name (definitions_of whole name) (definitions_of whole name)
+      → line_at_head chosen s name (definitions_of whole.symbols name) (definitions_of whole.symbols name)
       ≡ option_map (line name)
       (cond (is_number (lists.first_definition psyms name) s) (rivals.two_of (rivals.loaded_definitions psyms marks name)) None)
   listed-line s name =
-      ap (λ o. cond (is_number (first_of (definitions_of whole name)) s && are_several (definitions_of whole name)) (option_map (duplicate_line whole name) o) None) (clash-same name)
-      ∙ at-head name (is_number (first_of (definitions_of whole name)) s) (are_several (definitions_of whole name)) (rivals.two_of (rivals.loaded_definitions psyms marks name)) (few-same name)
+      ap (λ o. cond (is_number (first_of (definitions_of whole.symbols name)) s && are_several (definitions_of whole.symbols name)) (option_map (duplicate_line whole name) o) None) (clash-same name)
+      ∙ at-head name (is_number (first_of (definitions_of whole.symbols name)) s) (are_several (definitions_of whole.symbols name)) (rivals.two_of (rivals.loaded_definitions psyms marks name)) (few-same name)
       ∙ ap (λ ids. option_map (duplicate_line whole name) (cond (is_number (first_of ids) s) (rivals.two_of (rivals.loaded_definitions psyms marks name)) None))
-      (definitions-same demangle (plain_given objects n) (link-over objects n plain) name)
+      (definitions-same (plain_given objects n) (link-over objects n plain) name)
       ∙ pairs-line name (cond (is_number (lists.first_definition psyms name) s) (rivals.two_of (rivals.loaded_definitions psyms marks name)) None)
 
   -- each symbol has the same line
@@ -235,7 +235,7 @@ module _ (demangle : Bytes → Bytes) (objects : List ObjectFile) (n : ℕ) (mar
       (listed-same x (plain-at s x at))
     where
       by_listed : (b : Bool)
-          → line_at_head chosen s x.name (cond b (definitions_of whole x.name) []) (cond b (definitions_of whole x.name) [])
+          → line_at_head chosen s x.name (cond b (definitions_of whole.symbols x.name) []) (cond b (definitions_of whole.symbols x.name) [])
           ≡ option_map (line x.name)
           (cond (b && is_number (lists.first_definition psyms x.name) s) (rivals.two_of (rivals.loaded_definitions psyms marks x.name)) None)
       by_listed true = listed-line s x.name
@@ -265,7 +265,7 @@ module _ (demangle : Bytes → Bytes) (objects : List ObjectFile) (n : ℕ) (mar
   -- ---- late refusals
 
   -- no section is in two groups
-  group-none : group_refusal chosen ≡ None
+  pub group-none : group_refusal chosen ≡ None
   group-none = ap (λ causes. first_of causes) (members-once _ 0 objects plain)
 
   -- no version is undeclared
@@ -281,8 +281,7 @@ module _ (demangle : Bytes → Bytes) (objects : List ObjectFile) (n : ℕ) (mar
   -- the one late refusal is that of duplicates
   late-is : late_refusal (resolution_of whole marks) ≡ unless_none (sorted_texts (rivals.duplicates objects marks))
   late-is =
-      ap (λ first. option_or first (option_or (unless_none (sorted_texts (plain_duplicates chosen ++ versioned_duplicates chosen (plain_table chosen)))) (option_or (version_refusal (resolution_of whole marks)) None))) group-none
-      ∙ ap (λ last. option_or (unless_none (sorted_texts (plain_duplicates chosen ++ versioned_duplicates chosen (plain_table chosen)))) (option_or last None)) version-none
+      ap (λ last. option_or (unless_none (sorted_texts (plain_duplicates chosen ++ versioned_duplicates chosen (plain_table chosen)))) (option_or last None)) version-none
       ∙ last-none (unless_none (sorted_texts (plain_duplicates chosen ++ versioned_duplicates chosen (plain_table chosen))))
       ∙ ap (λ more. unless_none (sorted_texts (plain_duplicates chosen ++ more))) (versioned-none (plain_table chosen))
       ∙ ap (λ all. unless_none (sorted_texts all)) (append-nil (plain_duplicates chosen))

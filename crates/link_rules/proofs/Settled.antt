@@ -7,15 +7,17 @@ use Rattle.link_ids.specs.declared.strength.SymbolStrength.TheVariants.{Undefine
 use Rattle.std.specs.List.{filter_map}
 use Rattle.link_ids.specs.Pick.{Candidate, pick, first_strong, first_weak, largest_common, is_strong, is_weak, is_largest, common_of}
 use Rattle.link_rules.specs.Places.{Bytes, each_from, places_from, kept_if, first_of, are_several, behind_head}
-use Rattle.link_rules.specs.Targets.{target, target_beside, mapped_symbol, unshared_definitions, binding_strength}
+use Rattle.link_rules.specs.Targets.{target, name_table, unshared_in, beside_in, mapped_in, is_open, strength_at}
 use Rattle.link_input.specs.declared.internal_symbols.SymbolPlacement.{SymbolPlacement}
 use Rattle.link_input.specs.declared.internal_symbols.SymbolPlacement.TheVariants.{Undefined as NoPlacement, SectionStart, SectionEnd, TlsEnd, SectionGroupEnd, ForceUndefined, Redirect as Redirected, LoadBaseAddress, PlatformSpecific}
 use Rattle.std.specs.Str.{bytes_eq}
 use Rattle.std.proofs.lemmas.Slice.Eq.{bytes_eq-Decides}
-use Rattle.link_rules.specs.World.{World, Symbol, Source, in_prelude, in_object, in_script, in_stub, is_definition, is_shared, holds_at}
-use Rattle.link_rules.specs.Names.{definitions_of, first_definition, is_listed, is_named, is_defining, Mapping, mapping_with, original_of, wrapped, later_definitions}
+use Rattle.link_input.specs.Symbols.{Symbol, Origin, in_prelude, in_object, in_script, in_stub, is_shared}
+use Rattle.link_rules.specs.World.{Stage, is_definition, holds_at}
+use Rattle.link_rules.specs.Names.{definitions_of, first_definition, is_listed, is_named, is_defining, Mapping, mapping_with, original_of, wrapped, unwrapped, later_definitions}
 use Rattle.link_rules.specs.Selection.{Selection, surviving_strength, is_dynamic, target_of}
-use Rattle.link_rules.specs.Rivals.{choice, preferred_entry, is_surviving, is_held, static_entries, static_candidates, clash, settled_entry, two_steps, plain_entry, plain_table, reference_entry, reference_table, is_forced, is_forced_placement}
+use Rattle.link_rules.specs.Rivals.{choice, preferred_entry, is_surviving, is_held, static_entries, static_candidates, clash, settled_entry, two_steps, plain_entry, plain_table, reference_entry, reference_table, is_forced}
+use Rattle.link_rules.specs.Loading.{is_forced_placement}
 
 module _ {X : Type 0} where
   -- the head is in a list
@@ -168,7 +170,7 @@ pick_in weak_first cs s is = elim (option_or_cases (first_strong cs) _ s is) [
     ]
 
 -- the ids of candidates made of ids
-ids_of_candidates : (f : ℕ → SymbolStrength) (xs : List ℕ) → map (λ (c : ℕ × SymbolStrength). c.0) (map (λ s. (s, f s)) xs) ≡ xs
+pub ids_of_candidates : (f : ℕ → SymbolStrength) (xs : List ℕ) → map (λ (c : ℕ × SymbolStrength). c.0) (map (λ s. (s, f s)) xs) ≡ xs
 ids_of_candidates f [] = refl
 ids_of_candidates f (x ∷ xs) = ap (λ l. x ∷ l) (ids_of_candidates f xs)
 
@@ -183,10 +185,10 @@ pub choice_in : (l : Selection) (entries : List ℕ) (head : ℕ) → Contains e
 choice_in l entries head within = unwrapped_in (preferred_entry l entries) head entries within each
   where
     each : (s : ℕ) → preferred_entry l entries ≡ Some s → Contains entries s
-    each s is = elim (option_or_cases (pick l.world.rules.weak_overrides_common (static_candidates l entries)) (option_or (find (is_surviving l) entries) (find (is_held l) entries)) s is) [
+    each s is = elim (option_or_cases (pick l.stage.rules.weak_overrides_common (static_candidates l entries)) (option_or (find (is_surviving l) entries) (find (is_held l) entries)) s is) [
       | inl first ↦ filtered (λ x. not (is_dynamic l x)) entries s
           (subst (λ ids. Contains ids s) (ids_of_candidates (surviving_strength l) (static_entries l entries))
-          (pick_in l.world.rules.weak_overrides_common (static_candidates l entries) s first))
+          (pick_in l.stage.rules.weak_overrides_common (static_candidates l entries) s first))
       | inr rest ↦ elim (option_or_cases (find (is_surviving l) entries) (find (is_held l) entries) s rest) [
         | inl survives ↦ (found (is_surviving l) entries s survives).0
         | inr held ↦ (found (is_held l) entries s held).0
@@ -201,12 +203,12 @@ both_true true b is = (refl, is)
 both_true false b is = cc
 
 -- the symbol of this id is listed under its name
-pub record IsListedAt (w : World) (s : ℕ) (x : Symbol) : Type 0 where
+pub record IsListedAt (w : Stage) (s : ℕ) (x : Symbol) : Type 0 where
   pub at : slice_get w.symbols s ≡ Some x
   pub listed : is_listed x ≡ true
 
 -- each definition of a name is listed under it
-pub listed_in : (w : World) (name : Bytes) (s : ℕ) → Contains (definitions_of w name) s → (x : Symbol) × IsListedAt w s x × (x.name ≡ name)
+pub listed_in : (w : Stage) (name : Bytes) (s : ℕ) → Contains (definitions_of w.symbols name) s → (x : Symbol) × IsListedAt w s x × (x.name ≡ name)
 unfolding PlaceOf
 listed_in w name s within =
     let place = place_of (λ x. is_listed x && bytes_eq x.name name) 0 w.symbols s within in
@@ -218,16 +220,16 @@ listed_in w name s within =
     )
 
 -- what a plain table says of a listed symbol
-plain_is : (l : Selection) (s : ℕ) (x : Symbol) → IsListedAt l.world s x
-    → slice_index (plain_table l) s ≡ settled_entry l (definitions_of l.world x.name) (definitions_of l.world x.name) (slice_index (reference_table l) s)
+plain_is : (l : Selection) (s : ℕ) (x : Symbol) → IsListedAt l.stage s x
+    → slice_index (plain_table l) s ≡ settled_entry l (definitions_of l.stage.symbols x.name) (definitions_of l.stage.symbols x.name) (slice_index (reference_table l) s)
 plain_is l s x listed =
     let zero_add : 0 + s ≡ s = omega arith in
-    slice_index-each_from (plain_entry l (reference_table l)) 0 l.world.symbols s x listed.at
+    slice_index-each_from (plain_entry l (reference_table l)) 0 l.stage.symbols s x listed.at
     ∙ ap (λ n. plain_entry l (reference_table l) n x) zero_add
-    ∙ ap (λ b. settled_entry l (cond b (definitions_of l.world x.name) []) (cond b (definitions_of l.world x.name) []) (slice_index (reference_table l) s)) listed.listed
+    ∙ ap (λ b. settled_entry l (cond b (definitions_of l.stage.symbols x.name) []) (cond b (definitions_of l.stage.symbols x.name) []) (slice_index (reference_table l) s)) listed.listed
 
 -- a listed symbol is its own entry at first
-listed_source : (x : Symbol) (source : Source) → is_named x.name source ≡ true → is_forced source ≡ false
+listed_source : (x : Symbol) (source : Origin) → is_named x.name source ≡ true → is_forced source ≡ false
 listed_source x (in_prelude d) named = by_placement d.placement named
   where
     by_placement : (p : SymbolPlacement) → is_defining p ≡ true → is_forced_placement p ≡ false
@@ -245,13 +247,13 @@ listed_source x (in_script d) named = refl
 listed_source x (in_stub strength) named = refl
 
 -- a listed symbol points to itself at first
-reference_is : (l : Selection) (s : ℕ) (x : Symbol) → IsListedAt l.world s x → slice_index (reference_table l) s ≡ s
+reference_is : (l : Selection) (s : ℕ) (x : Symbol) → IsListedAt l.stage s x → slice_index (reference_table l) s ≡ s
 reference_is l s x listed =
     let zero_add : 0 + s ≡ s = omega arith in
-    let both = both_true (is_definition x) (is_named x.name x.source) listed.listed in
-    slice_index-each_from (reference_entry l) 0 l.world.symbols s x listed.at
+    let both = both_true (is_definition x) (is_named x.name x.origin) listed.listed in
+    slice_index-each_from (reference_entry l) 0 l.stage.symbols s x listed.at
     ∙ ap (λ n. reference_entry l n x) zero_add
-    ∙ ap (λ b. cond b (unwrap_or (first_definition l.world x.name) s) (cond (is_definition x) s (unwrap_or (target_of l s) 0))) (listed_source x x.source both.1)
+    ∙ ap (λ b. cond b (unwrap_or (first_definition l.stage x.name) s) (cond (is_definition x) s (unwrap_or (target_of l s) 0))) (listed_source x x.origin both.1)
     ∙ ap (λ b. cond b s (unwrap_or (target_of l s) 0)) both.0
 
 -- the head of several is one of them
@@ -281,10 +283,10 @@ pub settles : (l : Selection) (own : List ℕ) (s : ℕ) → Settles l own s (se
 settles l own s = settles_by l own s (are_several own) (is_none (clash l own)) refl refl
 
 -- the entry of a listed symbol
-pub entry_is : (l : Selection) (s : ℕ) (x : Symbol) → IsListedAt l.world s x
-    → slice_index (plain_table l) s ≡ settled_entry l (definitions_of l.world x.name) (definitions_of l.world x.name) s
+pub entry_is : (l : Selection) (s : ℕ) (x : Symbol) → IsListedAt l.stage s x
+    → slice_index (plain_table l) s ≡ settled_entry l (definitions_of l.stage.symbols x.name) (definitions_of l.stage.symbols x.name) s
 entry_is l s x listed = plain_is l s x listed
-    ∙ ap (λ old. settled_entry l (definitions_of l.world x.name) (definitions_of l.world x.name) old) (reference_is l s x listed)
+    ∙ ap (λ old. settled_entry l (definitions_of l.stage.symbols x.name) (definitions_of l.stage.symbols x.name) old) (reference_is l s x listed)
 
 -- each symbol of a settled list points to the choice
 settled_again : (l : Selection) (own : List ℕ) (s c : ℕ) → are_several own ≡ true → is_none (clash l own) ≡ true
@@ -295,38 +297,38 @@ settled_again l own s c several clear =
     ∙ ap (λ head. choice l own head) (head_same own c s several)
 
 -- a symbol of a settled list points to a listed symbol of its name, which points to itself
-pub fixed_by : (l : Selection) (s : ℕ) (x : Symbol) (t : ℕ) → IsListedAt l.world s x → slice_index (plain_table l) s ≡ t
-    → Settles l (definitions_of l.world x.name) s t → slice_index (plain_table l) t ≡ t
+pub fixed_by : (l : Selection) (s : ℕ) (x : Symbol) (t : ℕ) → IsListedAt l.stage s x → slice_index (plain_table l) s ≡ t
+    → Settles l (definitions_of l.stage.symbols x.name) s t → slice_index (plain_table l) t ≡ t
 fixed_by l s x t listed is (chosen several clear) =
-    let own : List ℕ = definitions_of l.world x.name in
-    let there_it_is = listed_in l.world x.name t (choice_in l own (unwrap_or (first_of own) s) (head_in own s several)) in
+    let own : List ℕ = definitions_of l.stage.symbols x.name in
+    let there_it_is = listed_in l.stage x.name t (choice_in l own (unwrap_or (first_of own) s) (head_in own s several)) in
     entry_is l t there_it_is.0 there_it_is.1
-    ∙ ap (λ name. settled_entry l (definitions_of l.world name) (definitions_of l.world name) t) there_it_is.2
+    ∙ ap (λ name. settled_entry l (definitions_of l.stage.symbols name) (definitions_of l.stage.symbols name) t) there_it_is.2
     ∙ settled_again l own s t several clear
 fixed_by l s x t listed is left_alone = is
 
 -- each definition of a name points to one that points to itself
-pub plain_table-twice : (l : Selection) (s : ℕ) (x : Symbol) → slice_get l.world.symbols s ≡ Some x → is_listed x ≡ true
+pub plain_table-twice : (l : Selection) (s : ℕ) (x : Symbol) → slice_get l.stage.symbols s ≡ Some x → is_listed x ≡ true
     → two_steps (plain_table l) s ≡ slice_index (plain_table l) s
 plain_table-twice l s x at listed =
-    let here_it_is : IsListedAt l.world s x = record { at = at; listed = listed } in
+    let here_it_is : IsListedAt l.stage s x = record { at = at; listed = listed } in
     let entry = entry_is l s x here_it_is in
     ap (λ t. slice_index (plain_table l) t) entry
-    ∙ fixed_by l s x (settled_entry l (definitions_of l.world x.name) (definitions_of l.world x.name) s) here_it_is entry (settles l (definitions_of l.world x.name) s)
+    ∙ fixed_by l s x (settled_entry l (definitions_of l.stage.symbols x.name) (definitions_of l.stage.symbols x.name) s) here_it_is entry (settles l (definitions_of l.stage.symbols x.name) s)
     ∙ sym entry
 
 -- ---- what a name is mapped to, and what a reference stands for, is a listed symbol
 
 -- the symbol of this id is listed
-unfoldable pub IsListed : World → ℕ → Type 0
+unfoldable pub IsListed : Stage → ℕ → Type 0
 IsListed w t = (x : Symbol) × IsListedAt w t x
 
 -- names are mapped to listed symbols alone
-GivesListed : World → Mapping → Type 0
+GivesListed : Stage → Mapping → Type 0
 GivesListed w m = (n : Bytes) (t : ℕ) → m n ≡ Some t → IsListed w t
 
 -- so it stays where a name is mapped anew to a listed symbol
-gives_listed-mapping_with : (w : World) (name : Bytes) (o : Option ℕ) (m : Mapping) → GivesListed w m
+gives_listed-mapping_with : (w : Stage) (name : Bytes) (o : Option ℕ) (m : Mapping) → GivesListed w m
     → ((t : ℕ) → o ≡ Some t → IsListed w t) → GivesListed w (mapping_with name o m)
 unfolding GivesListed
 gives_listed-mapping_with w name None m each new n t is = each n t is
@@ -337,7 +339,7 @@ gives_listed-mapping_with w name (Some s) m each new n t is = by_test (bytes_eq 
     by_test false same = each n t same
 
 -- so it stays after a wrap
-gives_listed-wrapped : (w : World) (m : Mapping) (name : Bytes) → GivesListed w m → GivesListed w (wrapped m name)
+gives_listed-wrapped : (w : Stage) (m : Mapping) (name : Bytes) → GivesListed w m → GivesListed w (wrapped m name)
 unfolding GivesListed
 gives_listed-wrapped w m name each =
     gives_listed-mapping_with w (codes "__real_" ++ name) (original_of m name) (mapping_with name (m (codes "__wrap_" ++ name)) m)
@@ -345,28 +347,28 @@ gives_listed-wrapped w m name each =
     (λ t is. elim (option_or_cases (m (codes "__real_" ++ name)) (m name) t is) [ inl real ↦ each _ t real | inr plain ↦ each _ t plain ])
 
 -- so it stays after all wraps
-gives_listed-fold : (w : World) (names : List Bytes) (m : Mapping) → GivesListed w m → GivesListed w (fold wrapped m names)
+gives_listed-fold : (w : Stage) (names : List Bytes) (m : Mapping) → GivesListed w m → GivesListed w (fold wrapped m names)
 gives_listed-fold w [] m each = each
 gives_listed-fold w (name ∷ names) m each = gives_listed-fold w names (wrapped m name) (gives_listed-wrapped w m name each)
 
 -- the first is one of them
-first_in : (xs : List ℕ) (t : ℕ) → first_of xs ≡ Some t → Contains xs t
+pub first_in : (xs : List ℕ) (t : ℕ) → first_of xs ≡ Some t → Contains xs t
 first_in [] t is = absurd (none_some t is)
 first_in (x ∷ xs) t is = subst (λ z. Contains (x ∷ xs) z) (some_same x t is) (here x xs)
 
 -- each definition of a name is listed
-listed_of : (w : World) (name : Bytes) (t : ℕ) → Contains (definitions_of w name) t → IsListed w t
+listed_of : (w : Stage) (name : Bytes) (t : ℕ) → Contains (definitions_of w.symbols name) t → IsListed w t
 unfolding IsListed
 listed_of w name t within = let it = listed_in w name t within in (it.0, it.1)
 
 -- what a name is mapped to is listed
-pub first_definition-listed : (w : World) (name : Bytes) (t : ℕ) → first_definition w name ≡ Some t → IsListed w t
+pub first_definition-listed : (w : Stage) (name : Bytes) (t : ℕ) → first_definition w name ≡ Some t → IsListed w t
 unfolding GivesListed
-first_definition-listed w = gives_listed-fold w w.options.wrap (λ name. first_of (definitions_of w name))
-    (λ name t is. listed_of w name t (first_in (definitions_of w name) t is))
+first_definition-listed w = gives_listed-fold w w.options.wrap (unwrapped w.symbols)
+    (λ name t is. listed_of w name t (first_in (definitions_of w.symbols name) t is))
 
 -- what stands behind the head is in the list
-behind_head_in : (s : ℕ) (xs : List ℕ) (t : ℕ) → Contains (behind_head s xs) t → Contains xs t
+pub behind_head_in : (s : ℕ) (xs : List ℕ) (t : ℕ) → Contains (behind_head s xs) t → Contains xs t
 behind_head_in s [] t within = within
 behind_head_in s (x ∷ xs) t within = by_test (x == s) within
   where
@@ -375,32 +377,32 @@ behind_head_in s (x ∷ xs) t within = by_test (x == s) within
     by_test false found_it = absurd (nothing_in t found_it)
 
 -- later definitions are listed
-later_listed_by : (w : World) (s : ℕ) (o : Option Symbol) (t : ℕ)
-    → Contains (option_map_or (λ x. behind_head s (definitions_of w x.name)) o []) t → IsListed w t
+later_listed_by : (w : Stage) (s : ℕ) (o : Option Symbol) (t : ℕ)
+    → Contains (option_map_or (λ x. behind_head s (definitions_of w.symbols x.name)) o []) t → IsListed w t
 later_listed_by w s None t within = absurd (nothing_in t within)
-later_listed_by w s (Some x) t within = listed_of w x.name t (behind_head_in s (definitions_of w x.name) t within)
+later_listed_by w s (Some x) t within = listed_of w x.name t (behind_head_in s (definitions_of w.symbols x.name) t within)
 
 -- what is picked beside a shared symbol is listed
-picked_listed : (w : World) (s t : ℕ) → pick w.rules.weak_overrides_common (unshared_definitions w s) ≡ Some t → IsListed w t
+picked_listed : (w : Stage) (s t : ℕ) → pick w.rules.weak_overrides_common (unshared_in (name_table w) s) ≡ Some t → IsListed w t
 picked_listed w s t is =
-    let unshared : ℕ → Bool = λ x. not (holds_at w (λ y. is_shared y.source) x) in
-    let within = subst (λ ids. Contains ids t) (ids_of_candidates (binding_strength w) (filter unshared (later_definitions w s)))
-    (pick_in w.rules.weak_overrides_common (unshared_definitions w s) t is) in
-    later_listed_by w s (slice_get w.symbols s) t (filtered unshared (later_definitions w s) t within)
+    let unshared : ℕ → Bool = λ x. not (holds_at w (λ y. is_shared y.origin) x) in
+    let within = subst (λ ids. Contains ids t) (ids_of_candidates (strength_at w) (filter unshared (later_definitions w.symbols s)))
+    (pick_in w.rules.weak_overrides_common (unshared_in (name_table w) s) t is) in
+    later_listed_by w s (slice_get w.symbols s) t (filtered unshared (later_definitions w.symbols s) t within)
 
 -- a target by whether the mapped symbol will do
-target_listed_by : (w : World) (s t : ℕ) (b : Bool) → IsListed w s
-    → cond b (Some s) (pick w.rules.weak_overrides_common (unshared_definitions w s)) ≡ Some t → IsListed w t
+target_listed_by : (w : Stage) (s t : ℕ) (b : Bool) → IsListed w s
+    → cond b (Some s) (pick w.rules.weak_overrides_common (unshared_in (name_table w) s)) ≡ Some t → IsListed w t
 target_listed_by w s t true listed is = subst (IsListed w) (some_same s t is) listed
 target_listed_by w s t false listed is = picked_listed w s t is
 
 -- a target by whether a symbol is mapped
-target_listed_from : (w : World) (u : Symbol) (o : Option ℕ) (t : ℕ) → ((s : ℕ) → o ≡ Some s → IsListed w s)
-    → option_and_then (target_beside w u) o ≡ Some t → IsListed w t
+target_listed_from : (w : Stage) (u : Symbol) (o : Option ℕ) (t : ℕ) → ((s : ℕ) → o ≡ Some s → IsListed w s)
+    → option_and_then (beside_in w.rules.weak_overrides_common (name_table w) (is_open u)) o ≡ Some t → IsListed w t
 target_listed_from w u None t each is = absurd (none_some t is)
 target_listed_from w u (Some s) t each is = target_listed_by w s t _ (each s refl) is
 
 -- where a reference has no version, its target is listed
-pub target-listed : (w : World) (u : Symbol) (t : ℕ) → u.version ≡ None → target w u ≡ Some t → IsListed w t
+pub target-listed : (w : Stage) (u : Symbol) (t : ℕ) → u.version ≡ None → target w u ≡ Some t → IsListed w t
 target-listed w u t plain is = target_listed_from w u (first_definition w u.name) t (first_definition-listed w u.name)
-    (ap (λ version. option_and_then (target_beside w u) (mapped_symbol w u.name version)) (sym plain) ∙ is)
+    (ap (λ version. option_and_then (beside_in w.rules.weak_overrides_common (name_table w) (is_open u)) (mapped_in (name_table w) u.name version)) (sym plain) ∙ is)

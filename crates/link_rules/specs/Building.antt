@@ -95,7 +95,11 @@ copies (suc n) x = x ∷ copies n x
 abbrev pub texts : Option Bytes → Option Bytes → Scripts
 texts version_script export_list = record { version_script = version_script; export_list = export_list }
 
--- objects alone
+-- one batch of objects alone
 abbrev pub of_objects : Options → List ObjectFile → Given
-of_objects options objects =
-    record { objects = objects; scripts = []; stubs = []; options = options; texts = texts None None }
+of_objects options objects = record {
+  first = record { objects = objects; scripts = []; stubs = [] };
+  later = [];
+  options = options;
+  texts = texts None None;
+}

@@ -1,13 +1,13 @@
 -- Which section groups are kept (ELF gABI, "Section Groups", `GRP_COMDAT`).
 use Rattle.std.specs.Prelude.{ℕ, ◌==◌, ◌&&◌, ◌||◌, List, [], ◌∷◌, map, filter, Bool, false, not, Option, Some, None, if◌then◌else◌, nat_lt, slice_get}
 use Rattle.std.specs.Option.{option_map_or}
-use Rattle.std.specs.List.{enumerate_from, flat_map, list_any}
+use Rattle.std.specs.List.{enumerate_from, flat_map}
 use Rattle.std.specs.Str.{bytes_eq}
 use Rattle.link_closure.specs.Closure.{is_marked}
 use Rattle.link_input.specs.declared.object.SectionGroup.{SectionGroup}
 use Rattle.link_input.specs.ObjectFile.{ObjectFile}
 use Rattle.link_rules.specs.Places.{Bytes, contains}
-use Rattle.link_rules.specs.World.{World}
+use Rattle.link_rules.specs.World.{Stage}
 
 -- the place of a group's object, and of the group among those of the object
 abbrev pub GroupPlace : Type 0
@@ -59,11 +59,11 @@ abbrev pub groups_of : ℕ × ObjectFile → List PlacedGroup
 groups_of o = map (placed_group o.0 o.1) (enumerate_from 0 o.1.object.groups)
 
 -- the loaded objects that are not shared, each with its place
-abbrev pub loaded_regular : World → List Bool → List (ℕ × ObjectFile)
+abbrev pub loaded_regular : Stage → List Bool → List (ℕ × ObjectFile)
 loaded_regular w marks = filter (λ o. is_marked marks o.0 && not o.1.object.is_dynamic) (enumerate_from 0 w.objects)
 
 -- the groups of the loaded regular objects, in order
-abbrev pub loaded_groups : World → List Bool → List PlacedGroup
+abbrev pub loaded_groups : Stage → List Bool → List PlacedGroup
 loaded_groups w marks = flat_map groups_of (loaded_regular w marks)
 
 -- the COMDAT groups among groups
@@ -76,17 +76,13 @@ is_kept_among comdats g =
     not g.group.is_comdat || option_map_or (is_same_place g.place) (kept_place comdats g.signature) false
 
 -- the groups of the loaded regular objects that are kept
-abbrev pub kept_groups : World → List Bool → List PlacedGroup
+abbrev pub kept_groups : Stage → List Bool → List PlacedGroup
 kept_groups w marks = filter (is_kept_among (comdats_among (loaded_groups w marks))) (loaded_groups w marks)
 
 -- those that are not kept
-abbrev pub discarded_groups : World → List Bool → List PlacedGroup
+abbrev pub discarded_groups : Stage → List Bool → List PlacedGroup
 discarded_groups w marks =
     filter (λ g. not (is_kept_among (comdats_among (loaded_groups w marks)) g)) (loaded_groups w marks)
-
--- whether a group of loaded regular objects is kept
-abbrev pub is_kept : World → List Bool → GroupPlace → Bool
-is_kept w marks p = list_any (λ g. is_same_place p g.place) (kept_groups w marks)
 
 -- the header and the members of a group, where it is one of this object
 abbrev pub sections_in : ℕ → PlacedGroup → List ℕ
@@ -95,7 +91,3 @@ sections_in f g = if g.place.0 == f then g.group.index ∷ g.group.members else 
 -- a section that is the header or a member of a discarded group
 abbrev pub is_discarded_by : List PlacedGroup → ℕ → ℕ → Bool
 is_discarded_by discarded f section = contains section (flat_map (sections_in f) discarded)
-
--- whether a section of a loaded object is discarded
-abbrev pub is_discarded : World → List Bool → ℕ → ℕ → Bool
-is_discarded w marks f section = is_discarded_by (discarded_groups w marks) f section

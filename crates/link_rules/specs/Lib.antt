@@ -21,9 +21,6 @@ pub mod Sorting
 pub mod Refusals
 pub mod Answer
 pub mod Building
-pub mod Computing
-pub mod Rows
-pub mod ScriptRows
-pub mod Worlds
-pub mod Further
+pub mod Examples
 pub mod PlainWorld
+pub mod Work

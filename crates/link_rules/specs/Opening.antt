@@ -9,7 +9,8 @@ use Rattle.link_input.specs.declared.internal_symbols.SymbolPlacement.{SymbolPla
 use Rattle.link_input.specs.declared.internal_symbols.SymbolPlacement.TheVariants as placement
 use Rattle.link_input.specs.Entries.{is_undefined, is_absolute, is_ifunc, is_func, is_tls, is_local}
 use Rattle.link_rules.specs.Flags.{flags_if, joined_flags}
-use Rattle.link_rules.specs.World.{World, Symbol, Source, in_prelude, in_object, in_script, in_stub}
+use Rattle.link_input.specs.Symbols.{Symbol, Origin, in_prelude, in_object, in_script, in_stub}
+use Rattle.link_rules.specs.World.{Stage}
 
 -- the redirect stands at a section or between sections
 abbrev pub has_location : SymbolLoc → Bool
@@ -45,7 +46,7 @@ place_flags e =
     else (if is_ifunc e.kind then flag.ifunc else flags_if (is_undefined e.place) flag.absolute)
 
 -- what the version script makes local; a script of the Rust form does so with all, at first
-abbrev pub script_flags : World → SymbolEntry → ℕ
+abbrev pub script_flags : Stage → SymbolEntry → ℕ
 script_flags w e =
     if is_undefined e.place || is_local e.binding then 0
     else (if is_some w.rules.rust_names then flag.downgrade_to_local
@@ -53,22 +54,22 @@ script_flags w e =
     (bit_or flag.downgrade_to_local (flags_if (not (is_tls e.kind)) flag.non_interposable)))
 
 -- no other file may take its place at run time, by the platform's rule
-abbrev pub is_non_interposable : World → SymbolEntry → Bool
+abbrev pub is_non_interposable : Stage → SymbolEntry → Bool
 is_non_interposable w e =
     w.rules.is_non_interposable e w.options.output (option_map (λ is_exported. is_exported e.name) w.rules.is_exported)
 
 -- an entry of a regular object: its place, the platform's rule, and the version script
-abbrev pub regular_flags : World → SymbolEntry → ℕ
+abbrev pub regular_flags : Stage → SymbolEntry → ℕ
 regular_flags w e =
     joined_flags (place_flags e ∷ flags_if (is_non_interposable w e) flag.non_interposable ∷ script_flags w e ∷ [])
 
 -- by where the symbol comes from
-abbrev pub source_flags : World → Source → ℕ
+abbrev pub source_flags : Stage → Origin → ℕ
 source_flags w (in_prelude d) = bit_or (placement_flags d.placement) (flags_if d.hidden flag.downgrade_to_local)
 source_flags w (in_object n shared e) = if shared then shared_flags e else regular_flags w e
 source_flags w (in_script d) = bit_or flag.non_interposable (flags_if d.hidden flag.downgrade_to_local)
 source_flags w (in_stub strength) = flag.dynamic
 
 -- the flags of each symbol as its file is read
-abbrev pub opening_flags : World → Symbol → ℕ
-opening_flags w x = source_flags w x.source
+abbrev pub opening_flags : Stage → Symbol → ℕ
+opening_flags w x = source_flags w x.origin

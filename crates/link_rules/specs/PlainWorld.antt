@@ -28,8 +28,9 @@ pub record IsPlainObject (o : ObjectFile) : Type 0 where
 
 -- plain objects and nothing else, with the options of a static executable
 pub record IsPlainLink (given : Given) : Type 0 where
-  pub objects : AllByRecursion IsPlainObject given.objects
-  pub scripts : given.scripts ≡ []
-  pub stubs : given.stubs ≡ []
+  pub objects : AllByRecursion IsPlainObject given.first.objects
+  pub scripts : given.first.scripts ≡ []
+  pub stubs : given.first.stubs ≡ []
+  pub later : given.later ≡ []
   pub options : given.options ≡ record default_options { files_per_group = given.options.files_per_group }
   pub texts : given.texts ≡ record { version_script = None; export_list = None }

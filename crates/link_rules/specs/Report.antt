@@ -1,12 +1,14 @@
 -- The report of a link, line by line, and the text of a refusal.
-use Rattle.std.specs.Prelude.{ℕ, List, [], ◌∷◌, ◌++◌, Option, Some, None, codes, decimal}
+use Rattle.std.specs.Prelude.{ℕ, List, [], ◌∷◌, ◌++◌, Option, Some, None, codes, decimal, slice_get}
+use Rattle.std.specs.Option.{option_map_or}
 use Rattle.std.specs.List.{flat_map}
 use Rattle.link_ids.specs.NameText.{name_text}
 use Rattle.link_ids.specs.FlagText.{flags_text}
 use Rattle.link_script.specs.ErrorText.{error_text}
 use Rattle.link_rules.specs.declared.linked.LoadedObject.{LoadedObject}
 use Rattle.link_rules.specs.declared.linked.KeptGroup.{KeptGroup}
-use Rattle.link_rules.specs.declared.linked.LinkedSymbol.{LinkedSymbol}
+use Rattle.link_ids.specs.declared.value_flags.ValueFlags.{ValueFlags}
+use Rattle.link_rules.specs.Rivals.{two_steps}
 use Rattle.link_rules.specs.declared.linked.GivenVersion.{GivenVersion}
 use Rattle.link_rules.specs.declared.linked.UndefinedName.{UndefinedName}
 use Rattle.link_rules.specs.declared.linked.Linked.{Linked}
@@ -15,7 +17,7 @@ use Rattle.link_rules.specs.declared.refusal.ScriptOrigin.TheVariants.{VersionSc
 use Rattle.link_input.specs.declared.too_many.TooManyKind.{TooManyKind}
 use Rattle.link_input.specs.declared.too_many.TooManyKind.TheVariants.{Objects, LinkerScripts, StubLibraries, Sections, Symbols}
 use Rattle.link_rules.specs.declared.refusal.LinkError.{LinkError}
-use Rattle.link_rules.specs.declared.refusal.LinkError.TheVariants.{Script, MultipleVersionScripts, TooMany, NoInputs, SectionInTwoGroups, DuplicateSymbols, UndefinedVersion, Memory}
+use Rattle.link_rules.specs.declared.refusal.LinkError.TheVariants.{Script, MultipleVersionScripts, LateVersionScript, TooMany, NoInputs, SectionInTwoGroups, DuplicateSymbols, UndefinedVersion, Memory}
 use Rattle.link_rules.specs.Places.{Bytes, each_from}
 
 abbrev pub loaded_line : LoadedObject → Bytes
@@ -29,10 +31,15 @@ abbrev pub symbol_name : Bytes → Bytes
 symbol_name [] = codes "<unnamed>"
 symbol_name (b ∷ bs) = name_text (b ∷ bs)
 
-abbrev pub symbol_line : ℕ → LinkedSymbol → Bytes
-symbol_line s x =
-    codes "symbol " ++ decimal s ++ codes " " ++ symbol_name x.name ++ codes " -> " ++ decimal x.definition
-    ++ codes " [" ++ flags_text x.flags.0 ++ codes "]\n"
+-- the flags of the symbol of this id
+abbrev pub flags_at : List ValueFlags → ℕ → ℕ
+flags_at flags s = option_map_or (λ f. f.0) (slice_get flags s) 0
+
+-- what a symbol means by the table, and the flags of its own value
+abbrev pub symbol_line : List ℕ → List ValueFlags → ℕ → Bytes → Bytes
+symbol_line table flags s name =
+    codes "symbol " ++ decimal s ++ codes " " ++ symbol_name name ++ codes " -> " ++ decimal (two_steps table s)
+    ++ codes " [" ++ flags_text (flags_at flags s) ++ codes "]\n"
 
 abbrev pub version_line : GivenVersion → Bytes
 version_line v = codes "version " ++ decimal v.symbol ++ codes " " ++ decimal v.index ++ codes "\n"
@@ -54,7 +61,7 @@ joined_lines lines = flat_map (λ line. line) lines
 
 abbrev pub report_text : Linked → Bytes
 report_text linked =
-    flat_map loaded_line linked.loaded ++ flat_map kept_line linked.kept ++ joined_lines (each_from symbol_line 0 linked.symbols)
+    flat_map loaded_line linked.loaded ++ flat_map kept_line linked.kept ++ joined_lines (each_from (symbol_line linked.table linked.flags) 0 linked.names)
     ++ flat_map version_line linked.versions ++ flat_map undefined_line linked.undefined ++ flat_map missing_line linked.missing
 
 -- texts with a line feed between two
@@ -80,6 +87,7 @@ abbrev pub refusal_text : LinkError → Bytes
 refusal_text (Script origin error) = codes "Failed to parse " ++ origin_text origin ++ codes ": " ++ error_text error
 refusal_text (MultipleVersionScripts script) = codes "Multiple version scripts provided"
 refusal_text (TooMany kind count) = codes "Too many " ++ kind_text kind ++ codes ": " ++ decimal count
+refusal_text (LateVersionScript script) = codes "Version script in a later batch"
 refusal_text NoInputs = codes "no input files"
 refusal_text (SectionInTwoGroups file section) =
     name_text file ++ codes ": section " ++ decimal section ++ codes " belongs to multiple groups"

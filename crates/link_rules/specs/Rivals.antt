@@ -5,11 +5,11 @@ use Rattle.link_ids.specs.declared.strength.SymbolStrength.{SymbolStrength}
 use Rattle.link_ids.specs.declared.strength.SymbolStrength.TheVariants.{Undefined, Weak, GnuUnique, Strong, Common}
 use Rattle.link_ids.specs.Pick.{Candidate, pick, is_strong}
 use Rattle.link_closure.specs.Closure.{is_marked}
-use Rattle.link_input.specs.declared.internal_symbols.SymbolPlacement.{SymbolPlacement}
-use Rattle.link_input.specs.declared.internal_symbols.SymbolPlacement.TheVariants as placement
 use Rattle.link_rules.specs.Places.{each_from, first_of, first_two, are_several}
-use Rattle.link_rules.specs.World.{World, Symbol, Source, in_prelude, in_object, in_script, in_stub, is_definition, holds_at}
+use Rattle.link_input.specs.Symbols.{Symbol, Origin, in_prelude, in_object, in_script, in_stub}
+use Rattle.link_rules.specs.World.{Stage, is_definition, holds_at}
 use Rattle.link_rules.specs.Names.{definitions_of, versioned_definitions_of, first_definition, is_listed, is_version_listed}
+use Rattle.link_rules.specs.Loading.{is_forced_placement}
 use Rattle.link_rules.specs.Selection.{Selection, target_of, surviving_strength, is_dynamic}
 
 -- the entries that no shared file gives
@@ -29,7 +29,7 @@ is_some_strength Strong = true
 is_some_strength (Common size) = true
 
 -- it comes from a loaded object that is not shared
-abbrev pub is_in_loaded_regular : List Bool → Source → Bool
+abbrev pub is_in_loaded_regular : List Bool → Origin → Bool
 is_in_loaded_regular marks (in_prelude d) = false
 is_in_loaded_regular marks (in_object f shared e) = is_marked marks f && not shared
 is_in_loaded_regular marks (in_script d) = false
@@ -41,11 +41,11 @@ is_surviving l s = is_some_strength (surviving_strength l s)
 
 -- a loaded regular object holds it
 abbrev pub is_held : Selection → ℕ → Bool
-is_held l s = holds_at l.world (λ x. is_in_loaded_regular l.marks x.source) s
+is_held l s = holds_at l.stage (λ x. is_in_loaded_regular l.marks x.origin) s
 
 -- the pick of the static entries, else the first that survives, else the first that a loaded regular object holds
 abbrev pub preferred_entry : Selection → List ℕ → Option ℕ
-preferred_entry l entries = option_or (pick l.world.rules.weak_overrides_common (static_candidates l entries))
+preferred_entry l entries = option_or (pick l.stage.rules.weak_overrides_common (static_candidates l entries))
     (option_or (find (is_surviving l) entries) (find (is_held l) entries))
 
 -- the entry that counts, the list's head where none is preferred
@@ -54,23 +54,11 @@ choice l entries head = unwrap_or (preferred_entry l entries) head
 
 -- two different strong entries, where that is not allowed
 abbrev pub clash : Selection → List ℕ → Option (ℕ × ℕ)
-clash l entries = if l.world.options.allow_multiple then None
+clash l entries = if l.stage.options.allow_multiple then None
     else first_two (filter (λ s. is_strong (surviving_strength l s)) (static_entries l entries))
 
--- the placement of a name that the user wants to be defined
-abbrev pub is_forced_placement : SymbolPlacement → Bool
-is_forced_placement placement.Undefined = false
-is_forced_placement placement.ForceUndefined = true
-is_forced_placement (placement.SectionStart n) = false
-is_forced_placement (placement.SectionEnd n) = false
-is_forced_placement (placement.TlsEnd n) = false
-is_forced_placement (placement.SectionGroupEnd n) = false
-is_forced_placement (placement.Redirect r) = false
-is_forced_placement placement.LoadBaseAddress = false
-is_forced_placement placement.PlatformSpecific = false
-
 -- a name that the user wants to be defined
-abbrev pub is_forced : Source → Bool
+abbrev pub is_forced : Origin → Bool
 is_forced (in_prelude d) = is_forced_placement d.placement
 is_forced (in_object n shared e) = false
 is_forced (in_script d) = false
@@ -79,12 +67,12 @@ is_forced (in_stub strength) = false
 -- a forced name stands for what it is mapped to, another definition for itself, a reference for its target
 abbrev pub reference_entry : Selection → ℕ → Symbol → ℕ
 reference_entry l s x =
-    if is_forced x.source then unwrap_or (first_definition l.world x.name) s
+    if is_forced x.origin then unwrap_or (first_definition l.stage x.name) s
     else (if is_definition x then s else unwrap_or (target_of l s) 0)
 
 -- what each symbol points to before rivals are settled
 abbrev pub reference_table : Selection → List ℕ
-reference_table l = each_from (reference_entry l) 0 l.world.symbols
+reference_table l = each_from (reference_entry l) 0 l.stage.symbols
 
 -- where several stand in a list without a clash, each points to the choice
 abbrev pub settled_entry : Selection → List ℕ → List ℕ → ℕ → ℕ
@@ -92,34 +80,34 @@ settled_entry l own entries old =
     if are_several own && is_none (clash l entries) then choice l entries (unwrap_or (first_of own) old) else old
 
 -- the definitions of a symbol's plain name, where it is one of them
-abbrev pub plain_list : World → Symbol → List ℕ
-plain_list w x = if is_listed x then definitions_of w x.name else []
+abbrev pub plain_list : Stage → Symbol → List ℕ
+plain_list w x = if is_listed x then definitions_of w.symbols x.name else []
 
 -- a definition points to the choice among those of its plain name
 abbrev pub plain_entry : Selection → List ℕ → ℕ → Symbol → ℕ
-plain_entry l table s x = settled_entry l (plain_list l.world x) (plain_list l.world x) (slice_index table s)
+plain_entry l table s x = settled_entry l (plain_list l.stage x) (plain_list l.stage x) (slice_index table s)
 
 -- what each symbol points to once the definitions of plain names are settled
 abbrev pub plain_table : Selection → List ℕ
-plain_table l = each_from (plain_entry l (reference_table l)) 0 l.world.symbols
+plain_table l = each_from (plain_entry l (reference_table l)) 0 l.stage.symbols
 
 -- what an entry stands for among the definitions of a version: what it points to, unless that is dynamic
 abbrev pub stand_in : Selection → List ℕ → ℕ → ℕ
 stand_in l table s = if is_dynamic l (slice_index table s) then s else slice_index table s
 
 -- the definitions of a symbol's name and version, where it is one of them
-abbrev pub versioned_list : World → Symbol → List ℕ
-versioned_list w x = if is_version_listed x then option_map_or (versioned_definitions_of w x.name) x.version [] else []
+abbrev pub versioned_list : Stage → Symbol → List ℕ
+versioned_list w x = if is_version_listed x then option_map_or (versioned_definitions_of w.symbols x.name) x.version [] else []
 
 -- a definition points to the choice among those of its name and version
 abbrev pub versioned_entry : Selection → List ℕ → ℕ → Symbol → ℕ
 versioned_entry l table s x =
-    settled_entry l (versioned_list l.world x) (map (stand_in l table) (versioned_list l.world x)) (slice_index table s)
+    settled_entry l (versioned_list l.stage x) (map (stand_in l table) (versioned_list l.stage x)) (slice_index table s)
 
 -- what each symbol points to once the definitions of versions are settled
 abbrev pub versioned_table : Selection → List ℕ
-versioned_table l = each_from (versioned_entry l (plain_table l)) 0 l.world.symbols
+versioned_table l = each_from (versioned_entry l (plain_table l)) 0 l.stage.symbols
 
--- what a symbol means by a table: two steps through it
+-- what a symbol means by a table: two steps through it, since a reference points to the first definition of its name, and that one to the definition that counts
 abbrev pub two_steps : List ℕ → ℕ → ℕ
 two_steps table s = slice_index table (slice_index table s)

@@ -1,5 +1,5 @@
 -- What a link takes as given: the platform's rules, the demangler's, and what the texts of scripts say.
-use Rattle.std.specs.Prelude.{ℕ, ◌-◌, List, [], ◌∷◌, ◌++◌, length, filter_map, Bool, true, false, Option, Some, None, Result, Ok, Err, if◌then◌else◌}
+use Rattle.std.specs.Prelude.{ℕ, ◌-◌, List, [], ◌++◌, length, filter_map, Bool, true, false, Option, Some, None, Result, Ok, Err, if◌then◌else◌}
 use Rattle.std.specs.Option.{option_or}
 use Rattle.std.specs.List.{list_any}
 use Rattle.link_input.specs.declared.symbol_entry.SymbolEntry.{SymbolEntry}
@@ -11,38 +11,22 @@ use Rattle.link_input.specs.Interposition.{keeps_place}
 use Rattle.link_script.specs.declared.fault.Fault.{Fault}
 use Rattle.link_script.specs.declared.fault.ScriptError.{ScriptError}
 use Rattle.link_script.specs.declared.matcher.ParsedSymbolMatcher.{ParsedSymbolMatcher}
-use Rattle.link_script.specs.declared.matcher.ParsedSymbolMatcher.TheVariants.{Multiple}
 use Rattle.link_script.specs.declared.script.RawScript.{RawScript}
 use Rattle.link_script.specs.declared.script.RawScript.TheVariants.{Anonymous, Named}
-use Rattle.link_script.specs.Fault.{◌>>=◌}
 use Rattle.link_script.specs.ForcedName.{forced_name}
-use Rattle.link_script.specs.GnuList.{gnu_list}
-use Rattle.link_script.specs.MachoList.{macho_list, exact_names}
+use Rattle.link_script.specs.ListedNames.{ListedNames, no_names, gnu_names, macho_names}
 use Rattle.link_script.specs.Lookup.{asked}
-use Rattle.link_script.specs.RustForm.{is_rust_form, listed_names}
-use Rattle.link_script.specs.Script.{script_at}
+use Rattle.link_script.specs.RustForm.{listed_names}
+use Rattle.link_script.specs.Script.{of_rust_form, script_at}
 use Rattle.link_script.specs.VersionOf.{Undeclared}
 use Rattle.link_rules.specs.Places.{Bytes, first_of}
 use Rattle.link_rules.specs.Matching.{entry_fits, is_local_by, version_by}
-
--- what an export list says: its entries, and the names that must be defined
-pub record ListedNames : Type 0 where
-  pub entries : List ParsedSymbolMatcher
-  pub required : List Bytes
 
 -- a platform's constant and rules
 pub record PlatformRules : Type 0 where
   pub weak_overrides_common : Bool
   pub is_non_interposable : SymbolEntry → OutputKind → Option Bool → Bool
   pub read_export_list : Bytes → Result ListedNames Fault
-
--- a list of GNU ld requires no name
-abbrev pub gnu_names : Bytes → Result ListedNames Fault
-gnu_names text = gnu_list text >>= λ entries. Ok (record { entries = entries; required = [] })
-
--- a list of Mach-O requires the names that stand in it as they are
-abbrev pub macho_names : Bytes → Result ListedNames Fault
-macho_names text = macho_list text >>= λ lines. Ok (record { entries = Multiple lines ∷ []; required = exact_names lines })
 
 -- platforms whose objects are like ELF's
 abbrev pub elf_like : PlatformRules
@@ -91,14 +75,14 @@ abbrev pub script_of : Option Bytes → RawScript
 script_of None = Named []
 script_of (Some text) = read_or (Named []) (script_at text)
 
+-- the global entries of the body that has no name
+abbrev pub unnamed_globals : RawScript → List ParsedSymbolMatcher
+unnamed_globals (Anonymous body) = body.globals
+unnamed_globals (Named versions) = []
+
 -- the names that a script of the Rust form lists
 abbrev pub rust_names_of : RawScript → Option (List Bytes)
-rust_names_of (Anonymous body) = if is_rust_form body then Some (listed_names body.globals) else None
-rust_names_of (Named versions) = None
-
--- the list of no names
-abbrev pub no_names : ListedNames
-no_names = record { entries = []; required = [] }
+rust_names_of script = if of_rust_form script then Some (listed_names (unnamed_globals script)) else None
 
 -- the export list of a text, where one is given
 abbrev pub list_of : PlatformRules → Option Bytes → ListedNames

@@ -8,19 +8,20 @@ use Rattle.link_rules.specs.declared.linked.GivenVersion.{GivenVersion}
 use Rattle.link_rules.specs.declared.refusal.LinkError.{LinkError}
 use Rattle.link_rules.specs.declared.refusal.LinkError.TheVariants.{UndefinedVersion}
 use Rattle.link_rules.specs.Places.{first_of}
-use Rattle.link_rules.specs.World.{is_definition, entry_passes}
+use Rattle.link_input.specs.Symbols.{entry_passes}
+use Rattle.link_rules.specs.World.{is_definition}
 use Rattle.link_rules.specs.Rivals.{is_in_loaded_regular, two_steps}
 use Rattle.link_rules.specs.Undefined.{Numbered, Resolution}
 
 -- whether the version script is asked for the symbol's version: a definition of a loaded regular object that is not local
 abbrev pub asks_version : Resolution → Numbered → Bool
-asks_version r s = is_shared_object r.selection.world.options.output && is_none r.selection.world.rules.rust_names
-    && is_in_loaded_regular r.selection.marks s.1.source && is_definition s.1
-    && not (entry_passes (λ e. is_local e.binding) false s.1.source) && two_steps r.table s.0 == s.0
+asks_version r s = is_shared_object r.selection.stage.options.output && is_none r.selection.stage.rules.rust_names
+    && is_in_loaded_regular r.selection.marks s.1.origin && is_definition s.1
+    && not (entry_passes (λ e. is_local e.binding) false s.1.origin) && two_steps r.table s.0 == s.0
 
 -- what the version script answers, where it is asked
 abbrev pub version_given : Resolution → Numbered → Result (Option ℕ) Undeclared
-version_given r s = if asks_version r s then r.selection.world.rules.version_of s.1.name s.1.version else Ok None
+version_given r s = if asks_version r s then r.selection.stage.rules.version_of s.1.name s.1.version else Ok None
 
 -- a symbol with its version, if it has one
 abbrev pub given_version : ℕ → Result (Option ℕ) Undeclared → Option GivenVersion
@@ -29,7 +30,7 @@ given_version s (Err e) = None
 
 -- the versions of all symbols, in the order of their ids
 abbrev pub versions_given : Resolution → List GivenVersion
-versions_given r = filter_map (λ s. given_version s.0 (version_given r s)) (enumerate_from 0 r.selection.world.symbols)
+versions_given r = filter_map (λ s. given_version s.0 (version_given r s)) (enumerate_from 0 r.selection.stage.symbols)
 
 -- an explicit version that the script doesn't declare is a cause
 abbrev pub undeclared_version : Result (Option ℕ) Undeclared → Option LinkError
@@ -39,4 +40,4 @@ undeclared_version (Err e) = Some (UndefinedVersion e.name e.version)
 -- the first symbol whose version the script doesn't declare
 abbrev pub version_refusal : Resolution → Option LinkError
 version_refusal r =
-    first_of (filter_map (λ s. undeclared_version (version_given r s)) (enumerate_from 0 r.selection.world.symbols))
+    first_of (filter_map (λ s. undeclared_version (version_given r s)) (enumerate_from 0 r.selection.stage.symbols))

@@ -1,39 +1,21 @@
--- The files of a link, and one list of all their symbols. A symbol's id is its place in that list.
-use Rattle.std.specs.Prelude.{ℕ, ◌+◌, ◌&&◌, ◌||◌, List, [], ◌∷◌, ◌++◌, map, length, Bool, true, false, not, Option, Some, None, slice_get, option_and_then, take}
+-- What is linked: the files of some batches, one after another, with the rules; and how far a link has come with a batch.
+use Rattle.std.specs.Prelude.{ℕ, ◌&&◌, List, [], ◌++◌, Bool, false, not, Option, length, position, slice_get, option_and_then, unwrap_or}
 use Rattle.std.specs.Option.{option_map_or}
-use Rattle.std.specs.List.{flat_map}
-use Rattle.link_ids.specs.declared.strength.SymbolStrength.{SymbolStrength}
-use Rattle.link_ids.specs.declared.strength.SymbolStrength.TheVariants.{Strong, Weak}
-use Rattle.link_input.specs.declared.symbol_entry.SymbolEntry.{SymbolEntry}
-use Rattle.link_input.specs.declared.internal_symbols.InternalSymDefInfo.{InternalSymDefInfo}
+use Rattle.link_input.specs.declared.options.Options.{Options}
 use Rattle.link_input.specs.declared.world.ProcessedLinkerScript.{ProcessedLinkerScript}
 use Rattle.link_input.specs.declared.world.StubLibrary.{StubLibrary}
 use Rattle.link_input.specs.declared.world.Scripts.{Scripts}
-use Rattle.link_input.specs.declared.options.Options.{Options}
 use Rattle.link_input.specs.Entries.{is_undefined, is_hidden, is_local}
+use Rattle.link_input.specs.InputFiles.{Batch, batch_files, prelude_file}
 use Rattle.link_input.specs.ObjectFile.{ObjectFile}
-use Rattle.link_input.specs.PreludeSymbols.{prelude_symbols}
-use Rattle.link_rules.specs.Places.{Bytes}
+use Rattle.link_input.specs.Symbols.{Symbol, Origin, file_symbols, symbols_of, object_in, is_shared, entry_passes}
+use Rattle.link_rules.specs.Places.{Bytes, is_number}
 use Rattle.link_rules.specs.Rules.{PlatformRules, Rules, rules_of}
 
--- where a symbol comes from; that of an object has the object's place, and says whether it is a shared object
-pub data Source : Type 0 where
-  in_prelude : (definition : InternalSymDefInfo) → Source
-  in_object : (object : ℕ) (is_dynamic : Bool) (entry : SymbolEntry) → Source
-  in_script : (definition : InternalSymDefInfo) → Source
-  in_stub : (strength : SymbolStrength) → Source
-
--- a symbol of a link: its name, its version if it has one, and where it comes from
-pub record Symbol : Type 0 where
-  pub name : Bytes
-  pub version : Option Bytes
-  pub source : Source
-
--- the files of a link, its options, and the texts of its scripts
+-- the files of a link in batches, its options, and the texts of its scripts
 pub record Given : Type 0 where
-  pub objects : List ObjectFile
-  pub scripts : List ProcessedLinkerScript
-  pub stubs : List StubLibrary
+  pub first : Batch
+  pub later : List Batch
   pub options : Options
   pub texts : Scripts
 
@@ -41,8 +23,34 @@ pub record Given : Type 0 where
 abbrev pub with_files_per_group : ℕ → Given → Given
 with_files_per_group n given = record given { options = record given.options { files_per_group = n } }
 
--- what is linked, the rules that it is linked by, and all symbols
+-- what is linked, and the rules that it is linked by
 pub record World : Type 0 where
+  pub first : Batch
+  pub later : List Batch
+  pub options : Options
+  pub texts : Scripts
+  pub rules : Rules
+
+-- the world of what is given, by rules that are known
+abbrev pub world_with : Rules → Given → World
+world_with rules given = record { first = given.first; later = given.later; options = given.options; texts = given.texts; rules = rules }
+
+-- the world of what is given, on a platform and with a demangler; only the first batch brings a version script
+abbrev pub world_of : PlatformRules → (Bytes → Bytes) → Given → World
+world_of platform demangle given = world_with (rules_of platform demangle given.options given.texts given.first.scripts) given
+
+-- what earlier batches left: a mark for each loaded object, what the references in these stand for, and the flags of each symbol
+pub record Earlier : Type 0 where
+  pub loaded : List Bool
+  pub targets : List (Option ℕ)
+  pub flags : List ℕ
+
+-- what is left where no batch came
+abbrev pub nothing_earlier : Earlier
+nothing_earlier = record { loaded = []; targets = []; flags = [] }
+
+-- a link with the files of some batches, all their symbols, and what the batches before the last one left
+pub record Stage : Type 0 where
   pub objects : List ObjectFile
   pub scripts : List ProcessedLinkerScript
   pub stubs : List StubLibrary
@@ -50,98 +58,58 @@ pub record World : Type 0 where
   pub texts : Scripts
   pub rules : Rules
   pub symbols : List Symbol
+  pub earlier : Earlier
 
--- a symbol without a version
-abbrev pub symbol_of : Bytes → Source → Symbol
-symbol_of name source = record { name = name; version = None; source = source }
-
--- the symbol of an entry of the object at this place
-abbrev pub object_symbol : ℕ → ObjectFile → SymbolEntry → Symbol
-object_symbol n o e = record { name = e.name; version = e.version; source = in_object n o.object.is_dynamic e }
-
--- the symbols of objects, of which the first has this place
-abbrev pub object_symbols : ℕ → List ObjectFile → List Symbol
-object_symbols n [] = []
-object_symbols n (o ∷ os) = map (object_symbol n o) o.object.symbols ++ object_symbols (n + 1) os
-
--- the symbols that a linker script defines
-abbrev pub script_symbols : ProcessedLinkerScript → List Symbol
-script_symbols s = map (λ d. symbol_of d.name (in_script d)) s.symbol_defs
-
--- the strong names, then the weak ones
-abbrev pub stub_symbols : StubLibrary → List Symbol
-stub_symbols l =
-    map (λ name. symbol_of name (in_stub Strong)) l.strong ++ map (λ name. symbol_of name (in_stub Weak)) l.weak
-
--- the symbols of all files: the prelude, the objects, the linker scripts, the stub libraries
-abbrev pub symbols_of : Given → List Symbol
-symbols_of given =
-    map (λ d. symbol_of d.name (in_prelude d)) (prelude_symbols given.options)
-    ++ object_symbols 0 given.objects
-    ++ flat_map script_symbols given.scripts
-    ++ flat_map stub_symbols given.stubs
-
--- the world of what is given, by rules that are known
-abbrev pub world_with : Rules → Given → World
-world_with rules given = record {
-  objects = given.objects;
-  scripts = given.scripts;
-  stubs = given.stubs;
-  options = given.options;
-  texts = given.texts;
-  rules = rules;
-  symbols = symbols_of given;
+-- before any batch there is the prelude
+abbrev pub start_of : World → Stage
+start_of w = record {
+  objects = [];
+  scripts = [];
+  stubs = [];
+  options = w.options;
+  texts = w.texts;
+  rules = w.rules;
+  symbols = file_symbols 0 (prelude_file w.options);
+  earlier = nothing_earlier;
 }
 
--- the world of what is given, on a platform and with a demangler
-abbrev pub world_of : PlatformRules → (Bytes → Bytes) → Given → World
-world_of platform demangle given = world_with (rules_of platform demangle given.options given.texts given.scripts) given
+-- the files of a batch follow those of the batches before it
+abbrev pub with_batch : Stage → Batch → Stage
+with_batch before b = record before {
+  objects = before.objects ++ b.objects;
+  scripts = before.scripts ++ b.scripts;
+  stubs = before.stubs ++ b.stubs;
+  symbols = before.symbols ++ symbols_of (length before.objects) (batch_files b);
+}
+
+-- a link with its first batch
+abbrev pub first_stage : World → Stage
+first_stage w = with_batch (start_of w) w.first
 
 -- whether a test holds of the symbol of this id
-abbrev pub holds_at : World → (Symbol → Bool) → ℕ → Bool
+abbrev pub holds_at : Stage → (Symbol → Bool) → ℕ → Bool
 holds_at w p s = option_map_or p (slice_get w.symbols s) false
 
--- the place of the object that holds a symbol
-abbrev pub object_in : Source → Option ℕ
-object_in (in_prelude d) = None
-object_in (in_object n shared e) = Some n
-object_in (in_script d) = None
-object_in (in_stub strength) = None
-
 -- the place of the object that holds the symbol of this id
-abbrev pub object_of : World → ℕ → Option ℕ
-object_of w s = option_and_then (λ x. object_in x.source) (slice_get w.symbols s)
-
--- it stands in a shared object or in a stub library
-abbrev pub is_shared : Source → Bool
-is_shared (in_prelude d) = false
-is_shared (in_object n shared e) = shared
-is_shared (in_script d) = false
-is_shared (in_stub strength) = true
+abbrev pub object_of : Stage → ℕ → Option ℕ
+object_of w s = option_and_then (λ x. object_in x.origin) (slice_get w.symbols s)
 
 -- whether the symbol of this id stands in a shared file
-abbrev pub is_shared_at : World → ℕ → Bool
-is_shared_at w s = holds_at w (λ x. is_shared x.source) s
-
--- a test of the entry of an object's symbol, and an answer for other symbols
-abbrev pub entry_passes : (SymbolEntry → Bool) → Bool → Source → Bool
-entry_passes p other (in_prelude d) = other
-entry_passes p other (in_object n shared e) = p e
-entry_passes p other (in_script d) = other
-entry_passes p other (in_stub strength) = other
+abbrev pub is_shared_at : Stage → ℕ → Bool
+is_shared_at w s = holds_at w (λ x. is_shared x.origin) s
 
 -- a hidden symbol of a shared object neither defines a name nor refers to one
-abbrev pub is_concealed : Source → Bool
-is_concealed source = is_shared source && entry_passes (λ e. is_hidden e.visibility) false source
+abbrev pub is_concealed : Origin → Bool
+is_concealed origin = is_shared origin && entry_passes (λ e. is_hidden e.visibility) false origin
 
 -- it stands for a place of its own; all symbols that no object gives are definitions
 abbrev pub is_definition : Symbol → Bool
-is_definition x = not (entry_passes (λ e. is_undefined e.place) false x.source) && not (is_concealed x.source)
+is_definition x = not (entry_passes (λ e. is_undefined e.place) false x.origin) && not (is_concealed x.origin)
 
 -- among undefined entries only the null entry is local (ELF gABI, "Symbol Table", index 0)
 abbrev pub is_reference : Symbol → Bool
-is_reference x = entry_passes (λ e. is_undefined e.place && not (is_local e.binding)) false x.source && not (is_concealed x.source)
+is_reference x = entry_passes (λ e. is_undefined e.place && not (is_local e.binding)) false x.origin && not (is_concealed x.origin)
 
--- the id of an object's first symbol
-abbrev pub first_symbol_of : World → ℕ → ℕ
-first_symbol_of w f = length (prelude_symbols w.options) + length (object_symbols 0 (take f w.objects))
+-- the id of the first symbol of the object at this place
+abbrev pub first_symbol_of : Stage → ℕ → ℕ
+first_symbol_of w f = unwrap_or (position (λ x. is_number (object_in x.origin) f) w.symbols) 0

@@ -12,7 +12,7 @@ ghost use Rattle.link_rules.specs.Plain.Answer as plain;
 /// whole link on an ELF platform: the same answer, or a refusal for the same cause.
 pub fn plain_links()
     ensures linked { (demangle : Bytes → Bytes) (given : Given) (linked : Linked)
-        → IsPlainLink given → plain.IsLinked given.objects linked → IsLinked (world_of elf_like demangle given) linked }
+        → IsPlainLink given → plain.IsLinked given.first.objects linked → IsLinked (world_of elf_like demangle given) linked }
     ensures refused { (demangle : Bytes → Bytes) (given : Given) (error : LinkError)
-        → IsPlainLink given → plain.IsRefused given.objects error → IsRefused (world_of elf_like demangle given) error }
+        → IsPlainLink given → plain.IsRefused given.first.objects error → IsRefused (world_of elf_like demangle given) error }
 {}

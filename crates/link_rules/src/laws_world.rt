@@ -1,11 +1,10 @@
 // Laws about the definitions of a whole link.
-ghost use Rattle.std.specs.Prelude.{◌≡◌, ◌↔◌, ◌⊎◌, ℕ, List, Bool, IsPermutation, IsTrue, None, true, Some, Option, slice_get};
+ghost use Rattle.std.specs.Prelude.{◌≡◌, ◌↔◌, ◌⊎◌, ℕ, List, Bool, IsPermutation, IsTrue, None, Some, Option, Ok, slice_get};
 ghost use Rattle.std.specs.List.{list_any};
-ghost use Rattle.link_input.specs.declared.object.ObjectTable.{ObjectTable};
 ghost use Rattle.link_input.specs.declared.symbol_entry.SymbolEntry.{SymbolEntry};
 ghost use Rattle.link_input.specs.Checks.{first_fault};
-ghost use Rattle.link_input.specs.Entries.{is_local, is_undefined};
-ghost use Rattle.link_input.specs.ObjectFile.{ObjectFile, is_optional};
+ghost use Rattle.link_input.specs.Entries.{is_undefined};
+ghost use Rattle.link_input.specs.ObjectFile.{ObjectFile};
 ghost use Rattle.link_script.specs.declared.body.Side.{Side};
 ghost use Rattle.link_script.specs.declared.export_list.ExportList.{ExportList};
 ghost use Rattle.link_script.specs.declared.matcher.ParsedSymbolMatcher.{ParsedSymbolMatcher};
@@ -18,32 +17,30 @@ ghost use Rattle.link_script.specs.Rank.{IsBest, filters_in};
 ghost use Rattle.link_script.specs.Script.{IsVersionBy};
 ghost use Rattle.link_rules.specs.declared.linked.Linked.{Linked};
 ghost use Rattle.link_rules.specs.declared.refusal.LinkError.{LinkError};
-ghost use Rattle.link_input.specs.declared.too_many.TooManyKind.{TooManyKind};
 ghost use Rattle.link_rules.specs.Places.{Bytes};
-ghost use Rattle.link_rules.specs.Flags.{flags_if};
-ghost use Rattle.link_rules.specs.Refusals.{limit_cause, section_count};
 ghost use Rattle.link_rules.specs.Matching.{entry_fits, rank, version_by};
-ghost use Rattle.link_rules.specs.Rules.{PlatformRules, Rules, elf_like, mach_like};
-ghost use Rattle.link_rules.specs.World.{Given, Symbol, World, world_of, world_with, with_files_per_group};
+ghost use Rattle.link_rules.specs.Rules.{PlatformRules, elf_like, mach_like};
+ghost use Rattle.link_input.specs.Symbols.{Symbol, in_object, object_symbol};
+ghost use Rattle.link_rules.specs.World.{is_concealed, is_reference, Given, Stage, World, world_of, with_files_per_group};
 ghost use Rattle.link_rules.specs.Comdat.{Comdat, kept_place};
 ghost use Rattle.link_rules.specs.Loading.{IsLoaded};
-ghost use Rattle.link_rules.specs.Selection.{selection_of};
+ghost use Rattle.link_rules.specs.Selection.{Selection};
 ghost use Rattle.link_rules.specs.Sorting.{IsSortedTexts, sorted_texts};
 ghost use Rattle.link_rules.specs.Undefined.{definition};
-ghost use Rattle.link_rules.specs.Answer.{IsLinked, IsRefused, IsRefusalText, IsReport};
+ghost use Rattle.link_rules.specs.Answer.{BatchesEnd, IsLinked, IsRefused, IsRefusalText, IsReport};
 
 use link_input::{ElfLike, MachLike, Platform};
 
-/// A world has one set of loaded objects, one answer and one report; one cause for which it is refused, with one text; and it is
-/// never both linked and refused, and one of both where its loaded objects are.
+/// Each stage of a link has one set of loaded objects. A world has one answer and one report, or one cause for which it is refused,
+/// with one text; it is one of both, linked or refused, and never both.
 pub fn a_world_has_one_answer()
-    ensures loaded { (w : World) (a b : List Bool) → IsLoaded w a → IsLoaded w b → a ≡ b }
+    ensures loaded { (w : Stage) (a b : List Bool) → IsLoaded w a → IsLoaded w b → a ≡ b }
     ensures linked { (w : World) (a b : Linked) → IsLinked w a → IsLinked w b → a ≡ b }
     ensures report { (w : World) (a b : Bytes) → IsReport w a → IsReport w b → a ≡ b }
     ensures refusal { (w : World) (a b : LinkError) → IsRefused w a → IsRefused w b → a ≡ b }
     ensures refusal_text { (w : World) (a b : Bytes) → IsRefusalText w a → IsRefusalText w b → a ≡ b }
     ensures not_both { (w : World) (linked : Linked) (error : LinkError) → IsLinked w linked → IsRefused w error → ⊥ }
-    ensures some { (w : World) (marks : List Bool) → IsLoaded w marks → ((linked : Linked) × IsLinked w linked) ⊎ ((error : LinkError) × IsRefused w error) }
+    ensures some { (w : World) → ((linked : Linked) × IsLinked w linked) ⊎ ((error : LinkError) × IsRefused w error) }
 {}
 
 /// How many objects are read as one group changes no answer.
@@ -61,11 +58,9 @@ pub fn kept_group_in_any_order()
 
 /// Where no symbol has a version, what a symbol means is its own meaning, whatever is loaded.
 pub fn a_definition_is_its_own()
-    ensures { (rules : Rules) (given : Given) (marks : List Bool) (s : ℕ) (x : Symbol)
-        → ((u : ℕ) (y : Symbol) → slice_get (world_with rules given).symbols u ≡ Some y → y.version ≡ None)
-        → slice_get (world_with rules given).symbols s ≡ Some x
-        → definition (selection_of (world_with rules given) marks) (definition (selection_of (world_with rules given) marks) s)
-        ≡ definition (selection_of (world_with rules given) marks) s }
+    ensures { (w : World) (last : Selection) (s : ℕ) (x : Symbol) → BatchesEnd w (Ok last)
+        → ((u : ℕ) (y : Symbol) → slice_get last.stage.symbols u ≡ Some y → y.version ≡ None)
+        → slice_get last.stage.symbols s ≡ Some x → definition last (definition last s) ≡ definition last s }
 {}
 
 /// The lines of duplicates are the texts that a sort gives: the same ones, in the order of their bytes.
@@ -83,10 +78,20 @@ pub fn texts_are_matched()
         → ((cxx : Bool) (f : Filter) → ListHas list cxx f ↔ EntriesHave entries cxx f) → IsListed list a ↔ IsTrue (list_any (entry_fits a) entries) }
 {}
 
+/// An undefined entry of a table that passes its checks is a reference, but for the null entry and for the hidden ones of shared
+/// objects.
+pub fn undefined_entries_are_references()
+    ensures { (has_null : Bool) (n : ℕ) (o : ObjectFile) (k : ℕ) (e : SymbolEntry)
+        → first_fault has_null o.object ≡ None → slice_get o.object.symbols k ≡ Some e → IsTrue (is_undefined e.place)
+        → IsTrue (is_reference (object_symbol n o e)) ⊎ IsTrue (is_concealed (in_object n o.object.is_dynamic e)) ⊎ (IsTrue has_null × (k ≡ 0)) }
+{}
+
 /// The rules of the two platforms are those that their traits tell.
 pub fn platforms_have_these_rules()
     ensures elf_weak { ⟦<ElfLike as Platform>⟧.WEAK_SYMBOLS_OVERRIDE_COMMON ≡ elf_like.weak_overrides_common }
     ensures elf { ⟦<ElfLike as Platform>⟧.is_non_interposable ≡ elf_like.is_non_interposable }
+    ensures elf_lists { ⟦<ElfLike as Platform>⟧.read_export_list ≡ elf_like.read_export_list }
     ensures mach_weak { ⟦<MachLike as Platform>⟧.WEAK_SYMBOLS_OVERRIDE_COMMON ≡ mach_like.weak_overrides_common }
     ensures mach { ⟦<MachLike as Platform>⟧.is_non_interposable ≡ mach_like.is_non_interposable }
+    ensures mach_lists { ⟦<MachLike as Platform>⟧.read_export_list ≡ mach_like.read_export_list }
 {}

@@ -3,21 +3,26 @@
 #![tactic(auto)]
 
 mod laws;
+mod laws_examples;
 mod laws_plain;
+mod laws_work;
 mod laws_world;
-mod laws_worlds;
 mod linked;
 mod refusal;
 mod symbol;
 
 pub use laws::{one_answer, worked_examples};
+pub use laws_examples::definitions_at_work;
 pub use laws_plain::plain_links;
+pub use laws_work::{
+    each_stage_has_its_loaded_objects, items_are_their_object,
+    stages_have_the_symbols_of_their_files, work_is_the_link,
+};
 pub use laws_world::{
     a_definition_is_its_own, a_world_has_one_answer, kept_group_in_any_order,
     platforms_have_these_rules, sorted_texts_are_sorted, texts_are_matched,
-    the_cutting_does_not_show,
+    the_cutting_does_not_show, undefined_entries_are_references,
 };
-pub use laws_worlds::{limits_of_ids, worked_worlds};
-pub use linked::{GivenVersion, KeptGroup, Linked, LinkedSymbol, LoadedObject, UndefinedName};
+pub use linked::{GivenVersion, KeptGroup, Linked, LoadedObject, UndefinedName};
 pub use refusal::{LinkError, ScriptOrigin};
 pub use symbol::Symbol;

@@ -17,15 +17,6 @@ pub struct KeptGroup {
     pub signature: Name,
 }
 
-/// What became of a symbol: the symbol that it means, which may be itself, and the flags of its own value.
-#[derive(Debug, Drop)]
-pub struct LinkedSymbol {
-    pub name: Name,
-    /// The undefined symbol, of id 0, where it means none.
-    pub definition: SymbolId,
-    pub flags: ValueFlags,
-}
-
 /// The version that the version script gives a symbol: its number in the output, where 1 is the global one.
 #[derive(Debug, Drop)]
 pub struct GivenVersion {
@@ -49,8 +40,14 @@ pub struct Linked {
     pub loaded: Seq<LoadedObject>,
     /// In the order of the objects, and of the groups in each.
     pub kept: Seq<KeptGroup>,
-    /// Each symbol, at its id.
-    pub symbols: Seq<LinkedSymbol>,
+    /// The name of each symbol, at its id.
+    pub names: Seq<Name>,
+    /// The symbol that each symbol points to, which may be itself. What a symbol means is two steps away: a reference points
+    /// to the first definition of its name, and that one to the definition that counts; what means nothing points to the
+    /// undefined symbol, of id 0.
+    pub table: Seq<SymbolId>,
+    /// The flags of each symbol's own value.
+    pub flags: Seq<ValueFlags>,
     /// In the order of the symbols' ids.
     pub versions: Seq<GivenVersion>,
     /// In the order of their ids.

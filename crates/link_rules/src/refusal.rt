@@ -24,6 +24,8 @@ pub enum LinkError {
     },
     /// This linker script has a version script, and one was given before.
     MultipleVersionScripts(usize),
+    /// This linker script has a version script, but its batch is not the first, and none was given before.
+    LateVersionScript(usize),
     /// More of these than ids can name.
     TooMany {
         kind: TooManyKind,
