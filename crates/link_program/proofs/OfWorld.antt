@@ -21,19 +21,19 @@ use Rattle.link_program.specs.PlainText.{IsPlainText}
 use Rattle.link_program.proofs.PlainManifest.{IsPlainElf, manifest-plain}
 
 -- the report on a link of the plain objects of a manifest is that on a link of its world
-report-of : (m : Described) (text : Bytes) → IsPlainElf m → plain.IsReport (given_of m).objects text → IsReport (world_of_manifest m) text
+report-of : (m : Described) (text : Bytes) → IsPlainElf m → plain.IsReport (given_of m).first.objects text → IsReport (world_of_manifest m) text
 report-of m text elf (linked, done, shown) =
     subst (λ (p : PlatformRules). IsReport (world_of p (λ name. name) (given_of m)) text) (sym elf.like_elf)
     (linked, linked-plain (λ name. name) (given_of m) linked elf.plain done, shown)
 
 -- and so the text of its refusal
-refusal-of : (m : Described) (text : Bytes) → IsPlainElf m → plain.IsRefusalText (given_of m).objects text → IsRefusalText (world_of_manifest m) text
+refusal-of : (m : Described) (text : Bytes) → IsPlainElf m → plain.IsRefusalText (given_of m).first.objects text → IsRefusalText (world_of_manifest m) text
 refusal-of m text elf (error, refused, told) =
     subst (λ (p : PlatformRules). IsRefusalText (world_of p (λ name. name) (given_of m)) text) (sym elf.like_elf)
     (error, refused-plain (λ name. name) (given_of m) error elf.plain refused, told)
 
 -- what holds of the objects that some bytes describe, holds of the bytes
-pub text-of_link : (bytes : Bytes) (m : Described) (s : Status) (text : Bytes) → manifest_of bytes ≡ Ok m → IsPlainText (given_of m).objects s text → IsTextOf bytes s text
+pub text-of_link : (bytes : Bytes) (m : Described) (s : Status) (text : Bytes) → manifest_of bytes ≡ Ok m → IsPlainText (given_of m).first.objects s text → IsTextOf bytes s text
 text-of_link bytes m Linked text is held = (m, is, report-of m text (manifest-plain bytes m is) held)
 text-of_link bytes m Refused text is (cause, told, line) = (m, cause, is, refusal-of m cause (manifest-plain bytes m is) told, line)
 text-of_link bytes m Usage text is held = absurd held

@@ -150,7 +150,7 @@ object-plain v o is =
 
 -- what the root says is a link of plain objects
 contents-plain : (n : ℕ) (objects : List ObjectFile) → AllByRecursion IsPlainObject objects → IsPlainLink (given_of (elf_manifest (contents_of n objects)))
-contents-plain n objects each = record { objects = each; scripts = refl; stubs = refl; options = refl; texts = refl }
+contents-plain n objects each = record { objects = each; scripts = refl; stubs = refl; later = refl; options = refl; texts = refl }
 
 -- a manifest of a platform like ELF, whose objects are plain
 pub record IsPlainElf (m : Described) : Type 0 where

@@ -1,5 +1,6 @@
 -- What a command writes, by how it ends.
 use Rattle.std.specs.Prelude.{◌≡◌, ℕ, List, [], ◌++◌, Option, IsSome, IfSome, Ok, Err, codes}
+use Rattle.link_input.specs.InputFiles.{batch_of}
 use Rattle.link_rules.specs.Places.{Bytes}
 use Rattle.link_rules.specs.World.{Given, World, world_of}
 use Rattle.link_rules.specs.Rules.{PlatformRules, elf_like, mach_like}
@@ -27,10 +28,10 @@ status_number Memory = 6
 abbrev pub error_line : Bytes → Bytes
 error_line what = codes "error: " ++ what ++ codes "\n"
 
--- what a manifest gives, whatever its platform
+-- what a manifest gives, whatever its platform: one batch
 abbrev pub given_of : Described → Given
-given_of (Elf world) = record { objects = world.inputs.objects; scripts = world.inputs.scripts; stubs = world.inputs.stubs; options = world.options; texts = world.scripts }
-given_of (Mach world) = record { objects = world.inputs.objects; scripts = world.inputs.scripts; stubs = world.inputs.stubs; options = world.options; texts = world.scripts }
+given_of (Elf world) = record { first = batch_of world.inputs; later = []; options = world.options; texts = world.scripts }
+given_of (Mach world) = record { first = batch_of world.inputs; later = []; options = world.options; texts = world.scripts }
 
 -- the rules of its platform
 abbrev pub platform_of : Described → PlatformRules

@@ -43,5 +43,5 @@ fn main(rt: HostRuntime) -> ExitCode {
         }
         Err(_) => Status::Memory,
     };
-    ExitCode::from(status.code())
+    status.exit_code()
 }

@@ -1,8 +1,8 @@
 // The program, over any source and sink.
-ghost use Rattle.std.specs.Prelude.{◌≡◌, ◌≢◌, ◌⊎◌, ◌++◌, codes, IfOk};
+ghost use Rattle.std.specs.Prelude.{◌≡◌, ◌≢◌, ◌⊎◌, ◌+◌, ◌^◌, ◌++◌, codes, IfOk};
 ghost use Rattle.link_manifest.specs.FaultText.{fault_text};
 ghost use Rattle.link_rules.specs.Places.{Bytes};
-ghost use Rattle.link_streams.specs.Streams.{IsAtEnd, Takes, TakesPart, Rose};
+ghost use Rattle.link_streams.specs.Streams.{IsAtEnd, GivesAtMost, Takes, TakesPart, Rose};
 ghost use Rattle.link_program.specs.Grammar.{IsInRange, IsNoCommand};
 ghost use Rattle.link_program.specs.PlainText.{IsPlainText};
 ghost use Rattle.link_program.specs.Outcome.{error_line, IsTextOf, IsLinkText, IsTextFor, IsDue};
@@ -45,10 +45,13 @@ pub fn run<R: Threads + Sync, S: Source, K: Sink>(
     ensures written { result ≢ Status.WriteFault → (text : Bytes)
         × IsTextFor words.now (S.left source.old) result text × Takes (K.taken sink.old) (K.taken sink.new) text }
     ensures part { result ≡ Status.WriteFault → (status : Status) × (text : Bytes)
-        × IsTextFor words.now (S.left source.old) status text × TakesPart (K.taken sink.old) (K.taken sink.new) text }
+        × IsTextFor words.now (S.left source.old) status text × TakesPart (K.taken sink.old) (K.taken sink.new) text
+        × (status ≡ Status.ReadFault → Rose (S.faults source.old) (S.faults source.new))
+        × ((status ≡ Status.Linked) ⊎ (status ≡ Status.Refused) → IsAtEnd (S.left source.new)) }
 
     ensures nothing_left { (result ≡ Status.Linked) ⊎ (result ≡ Status.Refused) → IsAtEnd (S.left source.new) }
     ensures nothing_read { IsNoCommand words.now → S.left source.new ≡ S.left source.old }
+    ensures read_no_further { GivesAtMost (S.left source.old) (S.left source.new) (2 ^ 28 + 1) }
 
     // A fault is told only where one came.
     ensures read_fault { result ≡ Status.ReadFault → Rose (S.faults source.old) (S.faults source.new) }
@@ -74,6 +77,7 @@ fn answer_to<S: Source>(alloc: Global, words: &[Word], source: &mut S) -> Result
     ensures text { IfOk result (λ a. IsTextFor words.now (S.left source.old) a.status a.text.items) }
     ensures nothing_left { IfOk result (λ a. (a.status ≡ Status.Linked) ⊎ (a.status ≡ Status.Refused) → IsAtEnd (S.left source.new)) }
     ensures nothing_read { IsNoCommand words.now → S.left source.new ≡ S.left source.old }
+    ensures read_no_further { GivesAtMost (S.left source.old) (S.left source.new) (2 ^ 28 + 1) }
     ensures read_fault { IfOk result (λ a. a.status ≡ Status.ReadFault → Rose (S.faults source.old) (S.faults source.new)) }
     ensures answered { IfOk result (λ a. a.status ≢ Status.Memory) }
 {
@@ -92,6 +96,7 @@ fn answer_to_link<S: Source>(
     requires in_range { IsInRange (Command.Link workers) }
     ensures text { IfOk result (λ a. IsLinkText (S.left source.old) a.status a.text.items) }
     ensures nothing_left { IfOk result (λ a. (a.status ≡ Status.Linked) ⊎ (a.status ≡ Status.Refused) → IsAtEnd (S.left source.new)) }
+    ensures read_no_further { GivesAtMost (S.left source.old) (S.left source.new) (2 ^ 28 + 1) }
     ensures read_fault { IfOk result (λ a. a.status ≡ Status.ReadFault → Rose (S.faults source.old) (S.faults source.new)) }
 {
     match read_all(alloc, source, MAX_BYTES) {

@@ -1,6 +1,9 @@
 // How the program ends.
 ghost use Rattle.std.specs.Prelude.{◌≡◌};
 ghost use Rattle.link_program.specs.Outcome.{status_number};
+ghost use Rattle.std.specs.Process.{exit_status};
+
+use std::process::ExitCode;
 
 /// How a command ended.
 #[derive(Clone, Copy, Debug, PartialEq, Eq)]
@@ -35,5 +38,12 @@ impl Status {
             Status::WriteFault => 5,
             Status::Memory => 6,
         }
+    }
+
+    /// What the program ends with.
+    pub fn exit_code(self) -> ExitCode
+        ensures { exit_status result ≡ status_number self }
+    {
+        ExitCode::from(self.code())
     }
 }

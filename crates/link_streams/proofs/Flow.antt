@@ -1,7 +1,7 @@
 -- Pieces of a stream, one after another.
-use Rattle.std.proofs.Common.{ℕ, ◌+◌, ◌<◌, List, [], ◌++◌, length, Option, Some, None, IfSome, Result, Ok, Err, OnErr, arith, refl}
+use Rattle.std.proofs.Common.{◌≡◌, ℕ, ◌+◌, ◌<◌, ◌≤◌, List, [], ◌++◌, length, Option, Some, None, IfSome, Result, Ok, Err, OnErr, arith, refl}
 use Rattle.std.proofs.lemmas.Grind.{common_steps}
-use Rattle.link_streams.specs.Streams.{Gives, Takes}
+use Rattle.link_streams.specs.Streams.{Gives, GivesAtMost, GivesCount, Takes}
 
 -- handing over nothing changes nothing
 pub gives-nothing : (a : Option (List ℕ)) → Gives a a []
@@ -16,6 +16,22 @@ gives-more None (Some b) c xs ys first second = absurd first
 gives-more (Some a) None c xs ys first second = absurd first
 gives-more (Some a) (Some b) None xs ys first second = second
 gives-more (Some a) (Some b) (Some c) xs ys first second = rw (first, second) (grind (arith, common_steps))
+
+-- so are two short pieces
+pub gives-at_most : (a b c : Option (List ℕ)) (xs ys : List ℕ) (most : ℕ) → Gives a b xs → Gives b c ys → length xs + length ys ≤ most → GivesAtMost a c most
+gives-at_most a b c xs ys most first second short =
+    let both : length (xs ++ ys) ≤ most = grind (arith, common_steps) in
+    (xs ++ ys, both, gives-more a b c xs ys first second)
+
+-- how many bytes two pieces are
+pub gives-count : (a b c : Option (List ℕ)) (xs ys : List ℕ) (count : ℕ) → Gives a b xs → Gives b c ys → length xs + length ys ≡ count → GivesCount a c count
+gives-count a b c xs ys count first second sum =
+    let both : length (xs ++ ys) ≡ count = grind (arith, common_steps) in
+    (xs ++ ys, both, gives-more a b c xs ys first second)
+
+-- handing over nothing hands over no more than so many
+pub gives-at_most_nothing : (a b : Option (List ℕ)) (most : ℕ) → b ≡ a → GivesAtMost a b most
+gives-at_most_nothing a b most same = rw same ([], omega arith, gives-nothing a)
 
 -- a source that gave more than the limit in two pieces had more than the limit
 pub too_long : (a b c : Option (List ℕ)) (xs ys : List ℕ) (limit : ℕ) → Gives a b xs → Gives b c ys → limit < length xs + length ys

@@ -1,5 +1,5 @@
 -- What a source still has, and what a sink has taken; either may not tell.
-use Rattle.std.specs.Prelude.{◌≡◌, ◌⊎◌, ℕ, ◌<◌, ◌^◌, ◌-◌, List, [], ◌++◌, length, take, Option, Some, None}
+use Rattle.std.specs.Prelude.{◌≡◌, ◌⊎◌, ℕ, ◌<◌, ◌≤◌, ◌^◌, ◌-◌, List, [], ◌++◌, length, take, Option, Some, None}
 
 -- these bytes were handed over, from the front of what was left
 abbrev pub Gives : Option (List ℕ) → Option (List ℕ) → List ℕ → Type 0
@@ -11,6 +11,14 @@ Gives (Some all) (Some rest) got = all ≡ got ++ rest
 -- some bytes were handed over
 abbrev pub GivesPart : Option (List ℕ) → Option (List ℕ) → Type 0
 GivesPart before after = (got : List ℕ) × Gives before after got
+
+-- some bytes were handed over, and no more than so many
+abbrev pub GivesAtMost : Option (List ℕ) → Option (List ℕ) → ℕ → Type 0
+GivesAtMost before after most = (got : List ℕ) × (length got ≤ most) × Gives before after got
+
+-- so many bytes were handed over
+abbrev pub GivesCount : Option (List ℕ) → Option (List ℕ) → ℕ → Type 0
+GivesCount before after count = (got : List ℕ) × (length got ≡ count) × Gives before after got
 
 -- nothing is left, where the source tells
 abbrev pub IsAtEnd : Option (List ℕ) → Type 0

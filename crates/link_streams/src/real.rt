@@ -2,7 +2,8 @@
 // what a file, a pipe or a terminal gave or took, no contract can say. Of a reader and a writer
 // that tell, it is proved that each call hands on just what theirs gave or took, and that no byte
 // is lost where an interrupted call is made again.
-ghost use Rattle.std.specs.Prelude.{◌≡◌, ◌<◌, ◌≤◌, length, take, None, is_ok, if◌then◌else◌, IfOk, OnErr};
+ghost use Rattle.std.specs.Prelude.{◌≡◌, ◌≢◌, ◌<◌, ◌≤◌, length, take, None, is_ok, if◌then◌else◌, IfOk, IfErr, OnOk, OnErr};
+ghost use Rattle.std.specs.IoError.{error_kind};
 ghost use Rattle.std.specs.Io.{ReadsAtMost, WritesAtMost};
 ghost use Rattle.std.specs.Io.KnownBytes.{ReadConsumes, WriteAppends, Consumes, Appends, Keeps, IsAtEnd};
 ghost use Rattle.link_streams.specs.Memory.{raised};
@@ -16,6 +17,7 @@ use std::marker::Model;
 fn read_through_signals<T: Read>(reader: &mut T, buf: &mut [u8]) -> io::Result<usize>
     ensures fits { ReadsAtMost result buf.new }
     ensures bytes { ReadConsumes (T.remaining reader.old) (T.remaining reader.new) result buf.new }
+    ensures retried { IfErr result (λ e. error_kind e ≢ ErrorKind.Interrupted) }
 {
     for _ in 0..u64::MAX {
         match reader.read(buf) {
@@ -23,13 +25,14 @@ fn read_through_signals<T: Read>(reader: &mut T, buf: &mut [u8]) -> io::Result<u
             answer => return answer,
         }
     }
-    Err(io::Error::from(ErrorKind::Interrupted))
+    Err(io::Error::from(ErrorKind::Other))
 }
 
 /// One write, made again while a signal interrupts it.
 fn write_through_signals<T: Write>(writer: &mut T, piece: &[u8]) -> io::Result<usize>
     ensures fits { WritesAtMost result piece.now }
     ensures bytes { WriteAppends (T.contents writer.old) (T.contents writer.new) result piece.now }
+    ensures retried { IfErr result (λ e. error_kind e ≢ ErrorKind.Interrupted) }
 {
     for _ in 0..u64::MAX {
         match writer.write(piece) {
@@ -37,7 +40,7 @@ fn write_through_signals<T: Write>(writer: &mut T, piece: &[u8]) -> io::Result<u
             answer => return answer,
         }
     }
-    Err(io::Error::from(ErrorKind::Interrupted))
+    Err(io::Error::from(ErrorKind::Other))
 }
 
 /// A reader, as standard input, as a source. A call that a signal interrupted is made again.
@@ -77,6 +80,7 @@ impl<T: Read> Source for RealSource<T> {
 
         ensures kept { OnErr result (Keeps (T.remaining self.old.inner) (T.remaining self.new.inner)) }
         ensures counted { self.new.faults ≡ (if is_ok result then self.old.faults else raised self.old.faults) }
+        ensures unharmed { OnOk result (self.new.faults ≡ self.old.faults) }
         ensures failed { OnErr result (Rose self.old.faults self.new.faults) }
         ensures never_falls { self.old.faults ≤ self.new.faults }
     {
@@ -128,6 +132,7 @@ impl<T: Write> Sink for RealSink<T> {
 
         ensures kept { OnErr result (Keeps (T.contents self.old.inner) (T.contents self.new.inner)) }
         ensures counted { self.new.faults ≡ (if is_ok result then self.old.faults else raised self.old.faults) }
+        ensures unharmed { OnOk result (self.new.faults ≡ self.old.faults) }
         ensures failed { OnErr result (Rose self.old.faults self.new.faults) }
         ensures never_falls { self.old.faults ≤ self.new.faults }
     {

@@ -1,5 +1,5 @@
 // What a source and a sink are.
-ghost use Rattle.std.specs.Prelude.{◌≡◌, ◌<◌, ◌≤◌, ℕ, List, length, take, Option, IfOk, OnErr};
+ghost use Rattle.std.specs.Prelude.{◌≡◌, ◌<◌, ◌≤◌, ℕ, List, length, take, Option, IfOk, OnOk, OnErr};
 ghost use Rattle.link_streams.specs.Streams.{Gives, IsAtEnd, Takes, Rose};
 
 /// A call of a source or a sink failed, and its count of faults rose.
@@ -23,6 +23,7 @@ pub trait Source {
         ensures given { IfOk result (λ count. Gives (left self.old) (left self.new) (take count buf.new)) }
         ensures end { IfOk result (λ count. count ≡ 0 → IsAtEnd (left self.old)) }
 
+        ensures unharmed { OnOk result (faults self.new ≡ faults self.old) }
         ensures failed { OnErr result (Rose (faults self.old) (faults self.new)) }
         ensures kept { OnErr result (left self.new ≡ left self.old) }
         ensures never_falls { faults self.old ≤ faults self.new };
@@ -45,6 +46,7 @@ pub trait Sink {
         ensures fits { IfOk result (λ count. count ≤ length piece.now) }
         ensures taken { IfOk result (λ count. Takes (taken self.old) (taken self.new) (take count piece.now)) }
 
+        ensures unharmed { OnOk result (faults self.new ≡ faults self.old) }
         ensures failed { OnErr result (Rose (faults self.old) (faults self.new)) }
         ensures kept { OnErr result (taken self.new ≡ taken self.old) }
         ensures never_falls { faults self.old ≤ faults self.new };

@@ -1,12 +1,12 @@
 // All of a source, and all of a text.
-ghost use Rattle.std.specs.Prelude.{◌≡◌, ◌<◌, ◌≤◌, length, IfOk, OnOk, OnErr, IfSome, IsErrOf};
+ghost use Rattle.std.specs.Prelude.{◌≡◌, ◌+◌, ◌<◌, ◌≤◌, length, IfOk, OnOk, OnErr, IfSome, IsErrOf};
 ghost use Rattle.link_streams.specs.declared.whole.ReadAllError.TheVariants.{ReadFault, Memory};
-ghost use Rattle.link_streams.specs.Streams.{Gives, GivesPart, IsAtEnd, Takes, TakesPart, Rose};
+ghost use Rattle.link_streams.specs.Streams.{Gives, GivesPart, GivesAtMost, GivesCount, IsAtEnd, Takes, TakesPart, Rose};
 
 use crate::stream::{Failed, Sink, Source};
 use std::alloc::{AllocError, Global};
 
-/// How many bytes are asked for at a time.
+/// The most bytes that are asked for at a time.
 const PIECE: usize = 64 * 1024;
 
 /// Why a source wasn't read to its end.
@@ -40,7 +40,7 @@ impl From<Failed> for ReadAllError {
 }
 
 /// All that a source has left, which are at most `limit` bytes. After an error the source has
-/// handed over some of its bytes.
+/// handed over some of its bytes. No answer takes more than `limit + 1` of them.
 pub fn read_all<S: Source>(
     alloc: Global,
     source: &mut S,
@@ -53,16 +53,21 @@ pub fn read_all<S: Source>(
     ensures too_long { IsErrOf result ReadAllError.TooLong → IfSome (S.left source.old) (λ all. limit < length all) }
     ensures read_fault { IsErrOf result ReadAllError.ReadFault → Rose (S.faults source.old) (S.faults source.new) }
     ensures part { OnErr result (GivesPart (S.left source.old) (S.left source.new)) }
+    ensures over { IsErrOf result ReadAllError.TooLong → GivesCount (S.left source.old) (S.left source.new) (limit + 1) }
+    ensures no_further { GivesAtMost (S.left source.old) (S.left source.new) (limit + 1) }
+    ensures unharmed { OnOk result (S.faults source.new ≡ S.faults source.old) }
     ensures never_falls { S.faults source.old ≤ S.faults source.new }
 {
     let mut bytes = Vec::new(alloc);
     let mut piece = [0u8; PIECE];
     loop {
-        let count = source.read(&mut piece)?;
+        let room = limit - bytes.len();
+        let asked = room.min(PIECE - 1) + 1;
+        let count = source.read(&mut piece[..asked])?;
         if count == 0 {
             return Ok(bytes);
         }
-        if count > limit - bytes.len() {
+        if count > room {
             return Err(ReadAllError::TooLong);
         }
         bytes.extend_from_slice(&piece[..count])?;
@@ -73,6 +78,7 @@ pub fn read_all<S: Source>(
 pub fn write_all<K: Sink>(sink: &mut K, bytes: &[u8]) -> Result<(), Failed>
     ensures whole { OnOk result (Takes (K.taken sink.old) (K.taken sink.new) bytes.now) }
     ensures part { OnErr result (TakesPart (K.taken sink.old) (K.taken sink.new) bytes.now) }
+    ensures unharmed { OnOk result (K.faults sink.new ≡ K.faults sink.old) }
     ensures failed { OnErr result (Rose (K.faults sink.old) (K.faults sink.new)) }
     ensures never_falls { K.faults sink.old ≤ K.faults sink.new }
 {

@@ -1,4 +1,4 @@
-use Rattle.std.proofs.Common.{◌≡◌, ◌-◌, arith, length, take, drop, take-add}
+use Rattle.std.proofs.Common.{◌≡◌, ◌∙◌, ◌-◌, arith, length, take, drop, take-add}
 use Rattle.std.proofs.lemmas.Grind.{common_steps}
 use Rattle.link_streams.proofs.Flow.{takes-more}
 use Rattle.link_streams.proofs.whole.write_all.Goals as goal
@@ -11,5 +11,5 @@ loop-written-preserved g c =
     record {
       within = grind (arith, common_steps);
       taken = rw take-add (takes-more _ (g.K.Sink.taken c.loop-written.sink) _ _ _ c.loop-written.invariant.taken piece);
-      faults = grind (arith, common_steps, c.write.ensures.never_falls, c.loop-written.invariant.faults);
+      faults = c.in_ok-written.ensures.unharmed ∙ c.loop-written.invariant.faults;
     }
