@@ -1,20 +1,27 @@
 #!/usr/bin/env python3
-"""Writes theorems of link_rules that a link of a manifest answers what is expected of it. See README.md."""
+"""Writes theorems of link_worlds that a link of a manifest answers what is expected of it. See README.md."""
 import argparse
-import json
 import os
 import re
 import sys
+import tempfile
 
-HEAD = os.path.join(os.path.dirname(os.path.abspath(__file__)), "..", "crates", "link_rules")
+import manifests
+import terms
 
-PLACES = {"undefined": "Undefined", "absolute": "Absolute", "common": "Common"}
-BINDINGS = {"local": "Local", "global": "Global", "weak": "Weak", "unique": "Unique"}
-VISIBILITIES = {"default": "Default", "protected": "Protected", "hidden": "Hidden"}
-KINDS = {"plain": "Plain", "func": "Func", "ifunc": "Ifunc", "tls": "Tls"}
-OUTPUTS = {"static": "StaticExecutable", "dynamic": "DynamicExecutable", "shared": "SharedObject", "partial": "Partial"}
-PLACEMENTS = {"section_start": "SectionStart", "section_end": "SectionEnd", "section_group_end": "SectionGroupEnd",
-              "tls_end": "TlsEnd", "load_base": "LoadBaseAddress", "platform": "PlatformSpecific"}
+HERE = os.path.dirname(os.path.abspath(__file__))
+CRATE = os.path.join(HERE, "..", "crates", "link_worlds")
+
+# each module, the file of its worlds, and its first line
+MODULES = [
+    ("Rows", "rows.jsonl", "Worked examples: small worlds of objects alone, and what a link of each answers."),
+    ("ScriptRows", "script_rows.jsonl",
+     "Worked examples: small worlds with scripts, lists, wraps and other options, and what a link of each answers."),
+    ("GuardRows", "guard_rows.jsonl", "Worked examples: small worlds that each tell one reading of a rule from another."),
+    ("BatchRows", "batch_rows.jsonl", "Worked examples: small worlds of several batches, and what a link of each answers."),
+    ("Worlds", "worlds.jsonl", "Generated worlds, and what an independent program answers to each."),
+    ("BatchWorlds", "batch_worlds.jsonl", "Generated worlds of several batches, and what an independent program answers to each."),
+]
 
 # what the checker opens to compute texts, and to read scripts
 TEXT_WORDS = ["is_utf8", "chars", "digits", "encode", "flags_text", "flag_table"]
@@ -24,156 +31,54 @@ SCRIPT_WORDS = ["macho_matcher", "line_matcher", "macho_list", "parent_at", "nam
                 "inner_extern", "block_turn", "block_at", "skip", "extern_at", "entry_at", "tokens_of", "does_match",
                 "glob_of"]
 
+# ---- worlds
 
-# ---- terms
+def read(name, manifest, expected):
+    """the manifest of a world, where a theorem can be written of it"""
+    try:
+        if expected.startswith(b"error: manifest: "):
+            raise manifests.Refused("a manifest that is not read has no theorem")
+        if not expected.endswith(b"\n"):
+            raise manifests.Refused("what is expected ends with no line feed")
+        return manifests.read(manifest)
+    except manifests.Refused as fault:
+        sys.exit("%s: %s" % (name, fault))
 
-def text(data):
-    """bytes as a term"""
-    if not data:
-        return "[]"
-    if all((32 <= c < 127 and c not in (34, 92)) or c == 10 for c in data):
-        return '(codes "%s")' % data.decode().replace("\n", "\\n")
-    return "(%s[])" % "".join("%d ∷ " % c for c in data)
-
-
-def rows(items):
-    return "(%s[])" % "".join(item + " ∷ " for item in items) if items else "[]"
-
-
-def lines(items, indent):
-    """a list with a line for each item, or one line for all where indent is None"""
-    if indent is None:
-        return rows(items)
-    start = "\n" + " " * indent
-    return "(%s [])" % "".join(start + item + " ∷" for item in items) if items else "[]"
-
-
-def maybe(value, term):
-    return "None" if value is None else "(Some %s)" % term(value)
-
-
-def truth(value):
-    return "true" if value else "false"
-
-
-# ---- the manifest: its values, and their terms
-
-def raw(value):
-    """a manifest's bytes: a text, or an object with hexadecimal digits"""
-    return None if value is None else bytes.fromhex(value["hex"]) if isinstance(value, dict) else value.encode()
-
-
-def names(values):
-    return rows([text(raw(value)) for value in values])
-
-
-def place(value):
-    return PLACES[value] if isinstance(value, str) else "(Section %d)" % value
-
-
-def entry(e):
-    fields = (e.get("version"), e.get("default", True), e.get("bind", "global"), e.get("vis", "default"),
-              e.get("kind", "plain"), e.get("size", 0))
-    if fields == (None, True, "global", "default", "plain", 0):
-        if e["place"] == "undefined":
-            return "refers %s" % text(raw(e["name"]))
-        if not isinstance(e["place"], str):
-            return "defines %s %d" % (text(raw(e["name"])), e["place"])
-    version, default, bind, vis, kind, size = fields
-    return "entry %s %s %s %s %s %s %d %s" % (text(raw(e["name"])), maybe(raw(version), text), truth(default), BINDINGS[bind],
-                                              VISIBILITIES[vis], KINDS[kind], size, place(e["place"]))
-
-
-def group(g):
-    return "group %d %d %s %s" % (g["header"], g["signature"], truth(g.get("comdat", True)), rows([str(m) for m in g.get("members", [])]))
-
-
-def file_of(o, has_null):
-    flags = [o.get(key, False) for key in ("dynamic", "archive", "whole_archive", "as_needed")]
-    name, entries = text(o["name"].encode()), [entry(e) for e in o.get("symbols", [])]
-    if has_null and o.get("sections", 0) == 4 and not o.get("groups") and flags.count(True) <= 1 and not flags[2] and not flags[3]:
-        return "%s %s %s" % ("shared" if flags[0] else "member" if flags[1] else "object", name, rows(entries))
-    return "file %s %s %d %s %s" % (name, " ".join(map(truth, flags)), o.get("sections", 0), rows(["null_entry"] * has_null + entries),
-                                    rows([group(g) for g in o.get("groups", [])]))
-
-
-def redirect(x, kind):
-    return "redirect %s %s %s %s" % (text(raw(x["name"])), kind, names(x.get("targets", [])), truth(x.get("hidden", False)))
-
-
-def linker_script(s):
-    return "linker_script %s %s %s %s" % (text(s["name"].encode()), maybe(raw(s.get("entry")), text), maybe(raw(s.get("version")), text),
-                                          rows([redirect(x, "Provide" if x.get("provide") else "Script") for x in s.get("symbols", [])]))
-
-
-def stub(s):
-    return "stub %s %s %s" % (text(s["name"].encode()), names(s.get("strong", [])), names(s.get("weak", [])))
-
-
-def internal(x):
-    placement = PLACEMENTS[x["placement"]]
-    if x["placement"] not in ("load_base", "platform"):
-        placement = "(%s %d)" % (placement, x.get("section", 0))
-    return "internal %s %s %s" % (text(raw(x["name"])), placement, truth(x.get("hidden", False)))
-
-
-def options(m):
-    terms = {"output": lambda v: OUTPUTS[v], "entry": lambda v: maybe(raw(v), text), "default_entry": lambda v: maybe(raw(v), text),
-             "allow_multiple": truth, "files_per_group": str, "wrap": names, "force_undefined": names, "force_export": names,
-             "defsym": lambda v: rows([redirect(x, "DefSym") for x in v]), "linker_symbols": lambda v: rows([internal(x) for x in v]),
-             "custom_sections": names}
-    given = ["%s = %s" % (key, term(m[key])) for key, term in terms.items() if m.get(key) not in (None, [], False)]
-    return "(record default_options { %s })" % "; ".join(given) if given else "default_options"
-
-
-def world(m, is_wide):
-    """the term of a world, in lines or in one"""
-    has_null = m.get("platform", "elf") == "elf"
-    files = [file_of(o, has_null) for o in m.get("objects", [])]
-    platform = "elf_like" if has_null else "mach_like"
-    if any(m.get(key) for key in ("scripts", "stubs")) or any(m.get(key) is not None for key in ("version_script", "export_list")):
-        fields = ["objects = %s" % lines(files, None if is_wide else 12), "scripts = %s" % rows([linker_script(s) for s in m.get("scripts", [])]),
-                  "stubs = %s" % rows([stub(s) for s in m.get("stubs", [])]), "options = %s" % options(m),
-                  "texts = texts %s %s" % (maybe(raw(m.get("version_script")), text), maybe(raw(m.get("export_list")), text))]
-        if is_wide:
-            given = "(record { %s })" % "; ".join(fields)
-        else:
-            given = "(record {\n%s      })" % "".join("        %s;\n" % field for field in fields)
-    else:
-        given = "(of_objects %s %s)" % (options(m), lines(files, None if is_wide else 6))
-    return "world_of %s undemangled%s%s" % (platform, " " if is_wide else "\n      ", given)
-
-
-def reads_scripts(m):
-    return (m.get("version_script") is not None or m.get("export_list") is not None or bool(m.get("force_export"))
-            or any(s.get("version") is not None for s in m.get("scripts", [])))
-
-
-def outcome(expected):
-    """a report, or a line that begins with `error: `"""
-    if expected.startswith(b"error: "):
-        return "refusal %s" % text(expected[len(b"error: "):-1])
-    return "report %s" % text(expected)
-
-
-# ---- pairs of a manifest and what is expected
 
 def pairs_of(path):
     """(name, what it shows, manifest, expected) of a folder of NAME.json and NAME.out, or of a stream with one object a line"""
     if path != "-" and os.path.isdir(path):
         for file in sorted(f for f in os.listdir(path) if f.endswith(".json")):
             with open(os.path.join(path, file), "rb") as m, open(os.path.join(path, file[:-5] + ".out"), "rb") as out:
-                yield file[:-5], None, json.load(m), out.read()
+                yield file[:-5], None, tree_of(file[:-5], m.read()), out.read()
         return
-    stream = sys.stdin if path == "-" else open(path, encoding="utf-8")
-    for line in stream:
-        if line.strip():
-            pair = json.loads(line)
-            yield pair["name"], pair.get("shows"), pair["manifest"], pair["expected"].encode()
+    with sys.stdin if path == "-" else open(path, encoding="utf-8") as stream:
+        for i, line in enumerate(stream):
+            if line.strip():
+                pair = tree_of("%s:%d" % (os.path.basename(path), i + 1), line)
+                unknown = set(pair) - {"name", "shows", "manifest", "expected"}
+                if unknown or not {"name", "manifest", "expected"} <= set(pair):
+                    sys.exit("%s:%d: expected the keys name, manifest and expected, perhaps shows" % (os.path.basename(path), i + 1))
+                yield pair["name"], pair.get("shows"), pair["manifest"], pair["expected"].encode()
 
+
+def tree_of(name, data):
+    try:
+        return manifests.tree_of(data)
+    except (ValueError, manifests.Refused) as fault:
+        sys.exit("%s: %s" % (name, fault))
+
+
+def reads_scripts(m):
+    return (m["version_script"] is not None or m["export_list"] is not None or bool(m["force_export"])
+            or any(s["version"] is not None for b in [m] + m["batches"] for s in b["scripts"]))
+
+
+# ---- modules
 
 def imports(uses, body):
     """the `use` lines of which something stands in the body"""
+    body = re.sub(r"--.*", "", re.sub(r'"(\\.|[^"\\])*"', "", body))
     words = set(re.findall(r"[^\s(){};,.]+", body))
     lines = []
     for module, items in uses:
@@ -185,7 +90,7 @@ def imports(uses, body):
 
 INPUT = "Rattle.link_input.specs.declared."
 WORLD_USES = [
-    ("Rattle.std.specs.Prelude", ["List", "[]", "◌∷◌", "true", "false", "Some", "None", "codes"]),
+    ("Rattle.std.specs.Prelude", ["List", "[]", "◌∷◌", "true", "false", "Some", "None", "codes", "◌++◌"]),
     ("Rattle.link_ids.specs.declared.visibility.Visibility.TheVariants", ["Default", "Protected", "Hidden"]),
     (INPUT + "symbol_entry.Place.TheVariants", ["Undefined", "Absolute", "Common", "Section"]),
     (INPUT + "symbol_entry.SymbolBinding.TheVariants", ["Local", "Global", "Weak", "Unique"]),
@@ -197,9 +102,9 @@ WORLD_USES = [
     ("Rattle.link_input.specs.Defaults", ["default_options"]),
     ("Rattle.link_rules.specs.Rules", ["elf_like", "mach_like"]),
     ("Rattle.link_rules.specs.World", ["world_of"]),
-    ("Rattle.link_rules.specs.Building", ["undemangled", "entry", "null_entry", "refers", "defines", "group", "file", "object", "member",
+    ("Rattle.link_rules.specs.Building", ["undemangled", "copies", "entry", "null_entry", "refers", "defines", "group", "file", "object", "member",
                                           "shared", "internal", "redirect", "linker_script", "stub", "texts", "of_objects"]),
-    ("Rattle.link_rules.specs.Computing", ["Case", "report", "refusal"]),
+    ("Rattle.link_worlds.specs.Computing", ["Case", "report", "refusal"]),
 ]
 SCRIPT = "Rattle.link_script.specs."
 PROOF_USES = [
@@ -223,42 +128,94 @@ PROOF_USES = [
     (SCRIPT + "Block", ["language_at", "extern_text", "inner_extern", "block_turn", "block_at"]),
     (SCRIPT + "Skip", ["skip"]),
     (SCRIPT + "Entry", ["extern_at", "entry_at"]),
-    ("Rattle.link_rules.specs.Computing", ["IsAnswered", "AreAnswered"]),
-    ("Rattle.link_rules.proofs.Computed", ["answered"]),
+    ("Rattle.link_worlds.specs.Computing", ["IsAnswered", "AreAnswered"]),
+    ("Rattle.link_worlds.proofs.Computed", ["answered", "also"]),
 ]
 
 
-def write(path, about, uses, body):
-    with open(path, "w", encoding="utf-8") as out:
-        out.write("-- %s\n%s\n%s" % (about, imports(uses, body), body))
+def module(head, uses, body):
+    return "%s%s\n%s" % ("".join("-- %s\n" % line for line in head), uses, body)
+
+
+def wrapped(words, between, indent):
+    """words in lines"""
+    lines, line = [], " " * indent
+    for i, word in enumerate(words):
+        if len(line) + len(word) > terms.WIDTH:
+            lines.append(line.rstrip())
+            line = " " * indent
+        line += word + (between if i + 1 < len(words) else "")
+    return "\n".join(lines + [line.rstrip()])
+
+
+def modules_of(name, head, pairs):
+    """the texts of the module's definitions and of its proofs"""
+    cases, proofs, names = [], [], []
+    for world, shows, tree, expected in pairs:
+        if not re.fullmatch("[a-z][a-z0-9_]*", world) or world in names:
+            sys.exit("%s: expected a name of its own, of small letters, digits and _" % world)
+        names.append(world)
+        manifest = read(world, tree, expected)
+        cases.append("%sabbrev pub %s : Case\n%s = record {\n  world = %s;\n  outcome = %s;\n}\n"
+                     % ("-- %s\n" % shows if shows else "", world, world, terms.world(manifest), terms.outcome(expected)))
+        words = TEXT_WORDS + (SCRIPT_WORDS if reads_scripts(manifest) else [])
+        proofs.append("pub %s-is : IsAnswered its.%s\nunfolding\n%s\n%s-is = answered its.%s refl refl\n" % (world, world, wrapped(words, " ", 4), world, world))
+    cases.append("unfoldable pub all_cases : List Case\nall_cases =\n%s\n" % wrapped(names + ["[]"], " ∷ ", 4))
+    proofs.append("pub all_cases-are : AreAnswered its.all_cases\nunfolding its.all_cases\nall_cases-are =\n    let are : Unit {0} = tt in\n%s    are\n"
+                  % "".join("    let are = also %s-is are in\n" % n for n in reversed(names)))
+    return (module(head, imports(WORLD_USES, "".join(cases)), "\n".join(cases)),
+            module(head, imports(PROOF_USES, "".join(proofs)) + "use Rattle.link_worlds.specs.%s as its\n" % name, "\n".join(proofs)))
+
+
+def write_all(folder):
+    """every module, under this folder"""
+    for name, file, about in MODULES:
+        write(folder, name, [about, "Written by `tools/worlds.py` from `tools/%s`." % file], pairs_of(os.path.join(HERE, file)))
+
+
+def write(folder, name, head, pairs):
+    for part, text in zip(("specs", "proofs"), modules_of(name, head, pairs)):
+        os.makedirs(os.path.join(folder, part), exist_ok=True)
+        with open(os.path.join(folder, part, name + ".antt"), "w", encoding="utf-8") as out:
+            out.write(text)
+
+
+def content(path):
+    """the bytes of a file, or None"""
+    if not os.path.exists(path):
+        return None
+    with open(path, "rb") as file:
+        return file.read()
+
+
+def check():
+    """the names of the files that stand otherwise than they would be written"""
+    with tempfile.TemporaryDirectory() as folder:
+        write_all(folder)
+        files = [os.path.join(part, name + ".antt") for name, _, _ in MODULES for part in ("specs", "proofs")]
+        return [file for file in files if content(os.path.join(folder, file)) != content(os.path.join(CRATE, file))]
 
 
 def main():
     parser = argparse.ArgumentParser(description=__doc__)
-    parser.add_argument("module", help="the module's name, as Worlds")
-    parser.add_argument("about", help="its first line")
-    parser.add_argument("pairs", help="a folder of NAME.json and NAME.out, or a file (- is standard input) of one JSON object a line")
-    parser.add_argument("--folder", default=HEAD, help="the crate, in whose specs/ and proofs/ the module is written")
+    parser.add_argument("module", nargs="?", help="one module's name; none: all that stand")
+    parser.add_argument("about", nargs="?", help="its first line")
+    parser.add_argument("pairs", nargs="?", help="a folder of NAME.json and NAME.out, or a file (- is standard input) of one JSON object a line")
+    parser.add_argument("--folder", default=CRATE, help="the crate, in whose specs/ and proofs/ is written")
+    parser.add_argument("--check", action="store_true", help="compares with the modules that stand, and writes nothing")
     options = parser.parse_args()
-    cases, proofs, all_names = [], [], []
-    for name, shows, manifest, expected in pairs_of(options.pairs):
-        all_names.append(name)
-        cases.append("%sabbrev pub %s : Case\n%s = record {\n  world = %s;\n  outcome = %s;\n}\n"
-                     % ("-- %s\n" % shows if shows else "", name, name, world(manifest, shows is None), outcome(expected)))
-        words = TEXT_WORDS + (SCRIPT_WORDS if reads_scripts(manifest) else [])
-        proofs.append("pub %s-is : IsAnswered %s\nunfolding %s\n%s-is = answered %s refl refl\n" % (name, name, " ".join(words), name, name))
-    cases.append("unfoldable pub all_cases : List Case\nall_cases = %s[]\n" % "".join(n + " ∷ " for n in all_names))
-    proofs.append("pub all_cases-are : AreAnswered all_cases\nunfolding all_cases\nall_cases-are = %s\n" % tuple_of([n + "-is" for n in all_names]))
-    write(os.path.join(options.folder, "specs", options.module + ".antt"), options.about, WORLD_USES, "\n".join(cases))
-    uses = PROOF_USES + [("Rattle.link_rules.specs." + options.module, all_names + ["all_cases"])]
-    write(os.path.join(options.folder, "proofs", options.module + ".antt"), options.about, uses, "\n".join(proofs))
-
-
-def tuple_of(items):
-    out = "tt"
-    for item in reversed(items):
-        out = "(%s, %s)" % (item, out)
-    return out
+    if options.check:
+        differing = check()
+        for file in differing:
+            print("crates/link_worlds/%s is not what tools/worlds.py writes" % file)
+        sys.exit(1 if differing else 0)
+    if options.module is None:
+        write_all(options.folder)
+    elif options.pairs is None:
+        parser.error("a module is given with its first line and its worlds")
+    else:
+        head = [options.about, "Written by `tools/worlds.py %s .. %s`." % (options.module, os.path.basename(options.pairs.rstrip("/")))]
+        write(options.folder, options.module, head, pairs_of(options.pairs))
 
 
 if __name__ == "__main__":
