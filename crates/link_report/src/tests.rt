@@ -121,12 +121,13 @@ fn empty(alloc: Global) -> Result<Linked, AllocError> {
 
 const ODD_TEXT: &str = "\
 loaded 7 \nloaded 30 \"\u{e9}\"\n.o
-symbol 0 INVALID UTF-8([255, 0]) -> 4294967295 []
-symbol 1 a\nb -> 0 [DOWNGRADE_TO_LOCAL]
+symbol 0 INVALID UTF-8([255, 0]) -> 0 []
+symbol 1 a\nb -> 4294967295 [DOWNGRADE_TO_LOCAL]
 undefined 1 \nundefined 12 INVALID UTF-8([128])
 ";
 
-/// Names that are empty, no text, or hold a quote, a line feed or a letter of two bytes.
+/// Names that are empty, no text, or hold a quote, a line feed or a letter of two bytes. The first symbol points to one that
+/// is not in the table, and the second to the first: a meaning is two steps through the table.
 fn odd(alloc: Global) -> Result<Linked, AllocError> {
     linked(
         alloc,
