@@ -23,6 +23,9 @@ MODULES = [
     ("BatchWorlds", "batch_worlds.jsonl", "Generated worlds of several batches, and what an independent program answers to each."),
 ]
 
+# how long a module of worlds may be, but for its first lines; a longer one is cut into numbered ones
+MODULE_LINES = 740
+
 # what the checker opens to compute texts, and to read scripts
 TEXT_WORDS = ["is_utf8", "chars", "digits", "encode", "flags_text", "flag_table"]
 SCRIPT_WORDS = ["macho_matcher", "line_matcher", "macho_list", "parent_at", "named_at", "versions_at", "body_turn",
@@ -148,23 +151,55 @@ def wrapped(words, between, indent):
     return "\n".join(lines + [line.rstrip()])
 
 
+def case_of(pair):
+    """the definition of a world with its answer, and the theorem about it"""
+    world, shows, tree, expected = pair
+    manifest = read(world, tree, expected)
+    words = TEXT_WORDS + (SCRIPT_WORDS if reads_scripts(manifest) else [])
+    return ("%sabbrev pub %s : Case\n%s = record {\n  world = %s;\n  outcome = %s;\n}\n"
+            % ("-- %s\n" % shows if shows else "", world, world, terms.world(manifest), terms.outcome(expected)),
+            "pub %s-is : IsAnswered its.%s\nunfolding\n%s\n%s-is = answered its.%s refl refl\n" % (world, world, wrapped(words, " ", 4), world, world))
+
+
+def parts_of(names, cases):
+    """the worlds in parts, so that no module is longer than MODULE_LINES"""
+    parts, lines = [], MODULE_LINES
+    for name, case in zip(names, cases):
+        count = 1 + max(text.count("\n") for text in case)
+        if lines + count > MODULE_LINES:
+            parts, lines = parts + [[]], 0
+        parts[-1].append((name, case))
+        lines += count
+    return parts
+
+
 def modules_of(name, head, pairs):
-    """the texts of the module's definitions and of its proofs"""
-    cases, proofs, names = [], [], []
-    for world, shows, tree, expected in pairs:
-        if not re.fullmatch("[a-z][a-z0-9_]*", world) or world in names:
+    """the texts of the definitions and of the proofs by the names of their modules: one, or a list of the worlds that stand in numbered ones"""
+    pairs = list(pairs)
+    names = [pair[0] for pair in pairs]
+    for i, world in enumerate(names):
+        if not re.fullmatch("[a-z][a-z0-9_]*", world) or world in names[:i]:
             sys.exit("%s: expected a name of its own, of small letters, digits and _" % world)
-        names.append(world)
-        manifest = read(world, tree, expected)
-        cases.append("%sabbrev pub %s : Case\n%s = record {\n  world = %s;\n  outcome = %s;\n}\n"
-                     % ("-- %s\n" % shows if shows else "", world, world, terms.world(manifest), terms.outcome(expected)))
-        words = TEXT_WORDS + (SCRIPT_WORDS if reads_scripts(manifest) else [])
-        proofs.append("pub %s-is : IsAnswered its.%s\nunfolding\n%s\n%s-is = answered its.%s refl refl\n" % (world, world, wrapped(words, " ", 4), world, world))
-    cases.append("unfoldable pub all_cases : List Case\nall_cases =\n%s\n" % wrapped(names + ["[]"], " ∷ ", 4))
-    proofs.append("pub all_cases-are : AreAnswered its.all_cases\nunfolding its.all_cases\nall_cases-are =\n    let are : Unit {0} = tt in\n%s    are\n"
+    parts = parts_of(names, [case_of(pair) for pair in pairs])
+    list_case = "unfoldable pub all_cases : List Case\nall_cases =\n%s\n" % wrapped(names + ["[]"], " ∷ ", 4)
+    list_proof = ("pub all_cases-are : AreAnswered its.all_cases\nunfolding its.all_cases\nall_cases-are =\n    let are : Unit {0} = tt in\n%s    are\n"
                   % "".join("    let are = also %s-is are in\n" % n for n in reversed(names)))
-    return (module(head, imports(WORLD_USES, "".join(cases)), "\n".join(cases)),
-            module(head, imports(PROOF_USES, "".join(proofs)) + "use Rattle.link_worlds.specs.%s as its\n" % name, "\n".join(proofs)))
+    if len(parts) == 1:
+        return {name: texts_of(name, head, [case for _, case in parts[0]] + [(list_case, list_proof)])}
+    modules = {"%s%d" % (name, i + 1): part for i, part in enumerate(parts)}
+    uses = [tuple("use Rattle.link_worlds.%s.%s.{%s}\n" % (folder, module, ", ".join(world + end for world, _ in part))
+                  for folder, end in (("specs", ""), ("proofs", "-is"))) for module, part in modules.items()]
+    texts = {module: texts_of(module, head, [case for _, case in part]) for module, part in modules.items()}
+    texts[name] = texts_of(name, head, [(list_case, list_proof)], uses)
+    return texts
+
+
+def texts_of(name, head, cases, uses=()):
+    """the texts of a module's definitions and of its proofs"""
+    specs, proofs = ("".join(use[i] for use in uses) for i in range(2))
+    case, proof = ("\n".join(texts[i] for texts in cases) for i in range(2))
+    return (module(head, imports(WORLD_USES, case) + specs, case),
+            module(head, imports(PROOF_USES, proof) + proofs + "use Rattle.link_worlds.specs.%s as its\n" % name, proof))
 
 
 def write_all(folder):
@@ -174,10 +209,18 @@ def write_all(folder):
 
 
 def write(folder, name, head, pairs):
-    for part, text in zip(("specs", "proofs"), modules_of(name, head, pairs)):
-        os.makedirs(os.path.join(folder, part), exist_ok=True)
-        with open(os.path.join(folder, part, name + ".antt"), "w", encoding="utf-8") as out:
-            out.write(text)
+    for module_name, texts in modules_of(name, head, pairs).items():
+        for part, text in zip(("specs", "proofs"), texts):
+            os.makedirs(os.path.join(folder, part), exist_ok=True)
+            with open(os.path.join(folder, part, module_name + ".antt"), "w", encoding="utf-8") as out:
+                out.write(text)
+
+
+def files_of(folder):
+    """the files of such modules, numbered or not, that stand in a crate"""
+    names = "|".join(name for name, _, _ in MODULES)
+    return {os.path.join(part, file) for part in ("specs", "proofs") for file in os.listdir(os.path.join(folder, part))
+            if re.fullmatch(r"(%s)\d*\.antt" % names, file)}
 
 
 def content(path):
@@ -192,8 +235,8 @@ def check():
     """the names of the files that stand otherwise than they would be written"""
     with tempfile.TemporaryDirectory() as folder:
         write_all(folder)
-        files = [os.path.join(part, name + ".antt") for name, _, _ in MODULES for part in ("specs", "proofs")]
-        return [file for file in files if content(os.path.join(folder, file)) != content(os.path.join(CRATE, file))]
+        files = files_of(folder) | files_of(CRATE)
+        return [file for file in sorted(files) if content(os.path.join(folder, file)) != content(os.path.join(CRATE, file))]
 
 
 def main():
