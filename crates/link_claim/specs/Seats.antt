@@ -5,7 +5,7 @@ use mathlib.Core.Option.{some}
 use lib.ListN.{get_elem?}
 use Rattle.atomic_table.specs.Seated.{TableId}
 use Rattle.link_closure.specs.Closure.{IsLeastClosed, is_marked}
-use Rattle.link_ids.specs.declared.value_flags.ValueFlags.{ValueFlags}
+use Rattle.link_flags.specs.declared.value_flags.ValueFlags.{ValueFlags}
 use Rattle.link_closure.specs.declared.workload.Mark.{Mark}
 use Rattle.link_claim.specs.declared.view.View.{View}
 use Rattle.link_closure.specs.Workload.{IsRoot, HasEdge, IsSound, marked}

@@ -11,7 +11,8 @@ use crate::view::View;
 use crate::words::{Words, WorkSeat};
 use atomic_table::Play;
 use bitflags::Flags;
-use link_ids::{SymbolId, SymbolIdRange, ValueFlags};
+use link_flags::ValueFlags;
+use link_ids::{SymbolId, SymbolIdRange};
 use std::marker::{Brand, Model, PhantomData};
 
 // The bits that a load asks for, which exist in proofs alone. Each call picks them.

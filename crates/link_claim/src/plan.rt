@@ -5,7 +5,8 @@ ghost use Rattle.link_closure.specs.declared.workload.Item.{Item};
 ghost use Rattle.link_closure.specs.Workload.{IsSound, IsRoot, HasItem};
 ghost use Rattle.link_claim.specs.Workload.{FitsU32};
 
-use link_ids::{SymbolId, ValueFlags};
+use link_flags::ValueFlags;
+use link_ids::SymbolId;
 
 /// It tells what there is of some work, which is what it means. Files, items and symbols are numbers from 0.
 pub trait Plan {

@@ -9,7 +9,7 @@ use Rattle.link_rules.specs.Plain.World.{is_definition, is_reference}
 use Rattle.link_rules.specs.Plain.Lists.{is_listed}
 use Rattle.link_rules.specs.Plain.Loading.{object_of}
 use Rattle.link_rules.specs.Plain.Rivals.{duplicate_line, file_name}
-use Rattle.link_ids.specs.FlagBits as flag
+use Rattle.link_flags.specs.FlagBits as flag
 use Rattle.link_rules.specs.Flags.{flags_if}
 use Rattle.link_rules.specs.Plain.Flags.{opening_flags}
 use Rattle.link_core.specs.declared.names.LoadedDefinitions.{LoadedDefinitions}

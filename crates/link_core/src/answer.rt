@@ -11,8 +11,10 @@ ghost use Rattle.link_rules.specs.Plain.Answer.{loaded_object, symbol_flags, und
 
 use crate::flags::{final_flags, referenced_symbols};
 use crate::names::is_left;
-use link_ids::{Name, SymbolId, ValueFlags};
+use link_flags::ValueFlags;
+use link_ids::SymbolId;
 use link_input::{ParsedInputObject, Platform};
+use link_names::Name;
 use link_rules::{LoadedObject, Symbol, UndefinedName};
 use std::alloc::{AllocError, Global};
 use std::collections::HashMap;

@@ -9,7 +9,7 @@ ghost use Rattle.link_rules.specs.Plain.Flags.{is_fixed, is_non_interposable, is
 use crate::names::is_loaded;
 use crate::symbols::is_definition;
 use bitflags::Flags;
-use link_ids::ValueFlags;
+use link_flags::ValueFlags;
 use link_input::{Place, SymbolBinding};
 use link_rules::Symbol;
 use std::alloc::{AllocError, Global};

@@ -14,14 +14,12 @@ use crate::answer::{
     canonical_marks, loaded_objects, symbol_flags, symbol_ids, symbol_names, undefined_names,
 };
 use crate::loading;
-use crate::names::{
-    LoadedDefinitions, canonical_references, first_definitions, loaded_definitions,
-};
+use crate::names::{LoadedDefinitions, canonical_references, first_definitions, loaded_definitions};
 use crate::rivals::duplicate_lines;
 use crate::symbols::symbols_of;
 use crate::table::table_of;
-use link_ids::Seq;
 use link_input::{Inputs, Options, ParsedInputObject, Platform, TooManyKind};
+use link_names::Seq;
 use link_rules::{LinkError, Linked, Symbol};
 use std::alloc::{AllocError, Global};
 use std::collections::HashMap;

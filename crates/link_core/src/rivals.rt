@@ -1,6 +1,6 @@
 // Names that two loaded objects define.
 ghost use Rattle.std.specs.Prelude.{◌≡◌, ◌++◌, ◌&&◌, if◌then◌else◌, ℕ, ◌<◌, ◌^◌, List, Option, Some, None, IfOk, OnOk, length, option_map, option_and_then, option_to_list, slice_get};
-ghost use Rattle.link_ids.specs.NameText.{name_text};
+ghost use Rattle.link_names.specs.NameText.{name_text};
 ghost use Rattle.link_core.specs.Found.{found, pair_of};
 ghost use Rattle.link_core.specs.Steps.{two_in, duplicate_from};
 ghost use Rattle.link_rules.specs.Places.{is_number};
@@ -13,8 +13,8 @@ ghost use Rattle.link_rules.specs.Sorting.{IsSortedTexts};
 use crate::answer::is_number;
 use crate::names::LoadedDefinitions;
 use crate::symbols::is_listed;
-use link_ids::Name;
 use link_input::{ParsedInputObject, Platform};
+use link_names::Name;
 use link_rules::Symbol;
 use std::alloc::{AllocError, Global};
 use std::collections::HashMap;

@@ -3,8 +3,8 @@ ghost use Rattle.std.specs.Prelude.{◌≡◌, ◌++◌, ◌<◌, ◌^◌, map, 
 ghost use Rattle.link_rules.specs.Plain.World.{undefined_symbol, symbol_of, symbols_of, is_definition, is_reference};
 ghost use Rattle.link_rules.specs.Plain.Lists.{is_listed};
 
-use link_ids::Name;
 use link_input::{ParsedInputObject, Place, Platform, SymbolBinding, SymbolEntry};
+use link_names::Name;
 use link_rules::Symbol;
 use std::alloc::{AllocError, Global};
 

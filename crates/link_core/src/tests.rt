@@ -1,10 +1,11 @@
 // What no clause says: that an answer comes where memory is ample.
 use crate::link_symbols;
-use link_ids::{Name, Seq, Visibility};
+use link_flags::Visibility;
 use link_input::{
     ElfLike, InputObject, Inputs, Modifiers, ObjectTable, Options, ParsedInputObject, Place,
     SymbolBinding, SymbolEntry, SymbolKind, TableError,
 };
+use link_names::{Name, Seq};
 use link_rules::LinkError;
 use std::alloc::{AllocError, Global};
 use std::test::Fail;

@@ -3,7 +3,7 @@ use Rattle.std.proofs.Common.{◌≡◌, ℕ, zero, suc, List, [], ◌∷◌, ma
 use Rattle.std.specs.Prelude.{option_map}
 use Rattle.std.specs.Option.{option_and_then}
 use Rattle.link_ids.specs.Span.{IsInside, offset_in}
-use Rattle.link_ids.specs.declared.strength.SymbolStrength.TheVariants.{Undefined}
+use Rattle.link_flags.specs.declared.strength.SymbolStrength.TheVariants.{Undefined}
 use Rattle.link_input.specs.InputFiles.{symbol_count}
 use Rattle.link_input.specs.Symbols.{Symbol, binding_strength, in_prelude, in_script, in_stub, strength_at, stub_strength, symbol_of, version_at}
 use Rattle.link_groups.specs.declared.sequenced_input.SequencedInput.{SequencedInput}

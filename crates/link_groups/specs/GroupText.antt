@@ -1,6 +1,6 @@
 -- How groups and files are shown.
 use Rattle.std.specs.Prelude.{ℕ, List, ◌++◌, codes, decimal, length}
-use Rattle.link_ids.specs.NameText.{name_text}
+use Rattle.link_names.specs.NameText.{name_text}
 use Rattle.link_groups.specs.declared.group.Group.{Group}
 use Rattle.link_groups.specs.declared.group.Group.TheVariants as group
 use Rattle.link_input.specs.InputFiles.{InputFile, prelude, object, linker_script, stub_library, synthetic}

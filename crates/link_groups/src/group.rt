@@ -10,8 +10,9 @@ use crate::sequenced::{
     SequencedInputObject, SequencedLinkerScript, SequencedStubLibrary, SyntheticSymbols,
 };
 use crate::sequenced_input::SequencedInput;
-use link_ids::{FileId, PRELUDE_FILE_ID, Seq, SymbolId, SymbolIdRange};
+use link_ids::{FileId, PRELUDE_FILE_ID, SymbolId, SymbolIdRange};
 use link_input::{Platform, Prelude};
+use link_names::Seq;
 use std::fmt;
 
 /// Files that follow one another and are read as one piece of work. Mirrors Wild's `Group`.

@@ -7,8 +7,8 @@ ghost use Rattle.link_groups.specs.GroupsAdded.{Adds, one_group};
 
 use crate::group::Group;
 use crate::sequencing::{NextIds, sequence_objects, sequence_scripts, sequence_stubs};
-use link_ids::Seq;
 use link_input::{ParsedInputObject, Platform, ProcessedLinkerScript, StubLibrary};
+use link_names::Seq;
 use std::alloc::{AllocError, Global};
 
 // Adds a group of objects.

@@ -6,11 +6,10 @@ ghost use Rattle.link_input.specs.BindingStrength.{binding_strength};
 ghost use Rattle.link_input.specs.Symbols.{section_id, stub_strength};
 ghost use Rattle.link_input.specs.ObjectFile.{is_optional};
 
-use link_ids::{
-    FileId, InputSectionId, InputSectionIndex, Name, SectionIdRange, Seq, SymbolId, SymbolIdRange,
-    SymbolStrength,
-};
+use link_flags::SymbolStrength;
+use link_ids::{FileId, InputSectionId, InputSectionIndex, SectionIdRange, SymbolId, SymbolIdRange};
 use link_input::{ParsedInputObject, Platform, ProcessedLinkerScript, StubSymbol, SymbolEntry};
+use link_names::{Name, Seq};
 
 /// An object with its place in a link. Mirrors Wild's `SequencedInputObject`.
 #[derive(Drop)]

@@ -8,8 +8,10 @@ ghost use Rattle.link_groups.specs.SequencedInputs.{sequenced_file};
 use crate::sequenced::{
     SequencedInputObject, SequencedLinkerScript, SequencedStubLibrary, SyntheticSymbols,
 };
-use link_ids::{InputSectionId, Name, SymbolId, SymbolStrength};
+use link_flags::SymbolStrength;
+use link_ids::{InputSectionId, SymbolId};
 use link_input::{Platform, Prelude};
+use link_names::Name;
 use std::fmt;
 
 /// One file of a group. Mirrors Wild's `SequencedInput`.

@@ -7,8 +7,9 @@ ghost use Rattle.link_input.specs.Limits.{total};
 ghost use Rattle.link_groups.specs.FileIds.{ids_from};
 
 use crate::sequenced::{SequencedInputObject, SequencedLinkerScript, SequencedStubLibrary};
-use link_ids::{FileId, InputSectionId, Name, SectionIdRange, Seq, SymbolId, SymbolIdRange};
+use link_ids::{FileId, InputSectionId, SectionIdRange, SymbolId, SymbolIdRange};
 use link_input::{ParsedInputObject, Platform, ProcessedLinkerScript, StubLibrary, StubSymbol};
+use link_names::{Name, Seq};
 use std::alloc::{AllocError, Global};
 
 /// The first ids that no file has yet.

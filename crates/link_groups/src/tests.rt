@@ -2,13 +2,15 @@
 ghost use Rattle.std.specs.Prelude.{◌≤◌};
 
 use crate::{Group, GroupsError, SyntheticSymbols, create_groups};
-use link_ids::{FileId, Name, Seq, SymbolIdRange, Visibility};
+use link_flags::Visibility;
+use link_ids::{FileId, SymbolIdRange};
 use link_input::{
     InputObject, Inputs, InternalSymDefInfo, InternalSymbolsBuilder, MachLike, Modifiers,
     ObjectTable, Options, ParsedInputObject, Place, Platform, ProcessedLinkerScript, Redirect,
     RedirectKind, StubLibrary, SymbolBinding, SymbolEntry, SymbolKind, SymbolLoc, SymbolPlacement,
     TooManyKind,
 };
+use link_names::{Name, Seq};
 use std::alloc::Global;
 use std::test::Fail;
 

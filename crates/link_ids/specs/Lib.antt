@@ -1,15 +1,3 @@
 pub mod Numbers
 pub mod Span
 pub mod FilePlace
-pub mod Strictness
-pub mod NameText
-pub mod NameHash
-pub mod PassThrough
-pub mod RawName
-pub mod Pick
-pub mod Selector
-pub mod SpecialNames
-pub mod FlagBits
-pub mod FlagTable
-pub mod FlagText
-pub mod FlagWords

@@ -1,7 +1,7 @@
 -- How strongly an entry binds.
 use Rattle.std.specs.Prelude.{if◌then◌else◌}
-use Rattle.link_ids.specs.declared.strength.SymbolStrength.{SymbolStrength}
-use Rattle.link_ids.specs.declared.strength.SymbolStrength.TheVariants.{Weak, GnuUnique, Strong, Common}
+use Rattle.link_flags.specs.declared.strength.SymbolStrength.{SymbolStrength}
+use Rattle.link_flags.specs.declared.strength.SymbolStrength.TheVariants.{Weak, GnuUnique, Strong, Common}
 use Rattle.link_input.specs.declared.symbol_entry.SymbolEntry.{SymbolEntry}
 use Rattle.link_input.specs.Entries.{is_common, is_unique, is_weak}
 

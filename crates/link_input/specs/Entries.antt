@@ -1,7 +1,7 @@
 -- What an entry of a symbol table says (ELF gABI, "Symbol Table").
 use Rattle.std.specs.Prelude.{ℕ, Bool, true, false, Option, Some, None}
-use Rattle.link_ids.specs.declared.visibility.Visibility.{Visibility}
-use Rattle.link_ids.specs.declared.visibility.Visibility.TheVariants.{Default, Protected, Hidden}
+use Rattle.link_flags.specs.declared.visibility.Visibility.{Visibility}
+use Rattle.link_flags.specs.declared.visibility.Visibility.TheVariants.{Default, Protected, Hidden}
 use Rattle.link_input.specs.declared.symbol_entry.Place.{Place}
 use Rattle.link_input.specs.declared.symbol_entry.Place.TheVariants.{Undefined, Absolute, Common, Section}
 use Rattle.link_input.specs.declared.symbol_entry.SymbolBinding.{SymbolBinding}

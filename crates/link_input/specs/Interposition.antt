@@ -1,7 +1,7 @@
 -- Which symbols no other file may take the place of at run time.
 use Rattle.std.specs.Prelude.{Bool, true, false, ◌||◌, ◌&&◌, not, Option, Some, None}
-use Rattle.link_ids.specs.declared.visibility.Visibility.{Visibility}
-use Rattle.link_ids.specs.declared.visibility.Visibility.TheVariants.{Default, Protected, Hidden}
+use Rattle.link_flags.specs.declared.visibility.Visibility.{Visibility}
+use Rattle.link_flags.specs.declared.visibility.Visibility.TheVariants.{Default, Protected, Hidden}
 use Rattle.link_input.specs.declared.symbol_entry.SymbolEntry.{SymbolEntry}
 use Rattle.link_input.specs.declared.options.OutputKind.{OutputKind}
 use Rattle.link_input.specs.Entries.{is_undefined, is_local}

@@ -1,6 +1,6 @@
 -- What is said of redirects.
 use Rattle.std.specs.Prelude.{ℕ, Bool, true, false, List, ◌++◌, codes}
-use Rattle.link_ids.specs.NameText.{name_text}
+use Rattle.link_names.specs.NameText.{name_text}
 use Rattle.link_input.specs.declared.internal_symbols.RedirectKind.{RedirectKind}
 use Rattle.link_input.specs.declared.internal_symbols.RedirectKind.TheVariants.{DefSym, Script, Provide}
 

@@ -2,10 +2,10 @@
 use Rattle.std.specs.Prelude.{ℕ, ◌+◌, Bool, true, false, List, [], ◌∷◌, ◌++◌, map, Option, Some, None, nat_lt, slice_get, option_map, if◌then◌else◌}
 use Rattle.std.specs.Option.{option_and_then}
 use Rattle.link_ids.specs.Span.{Span, id_at}
-use Rattle.link_ids.specs.declared.strength.SymbolStrength.{SymbolStrength}
-use Rattle.link_ids.specs.declared.strength.SymbolStrength.TheVariants.{Undefined, Weak, Strong}
-use Rattle.link_ids.specs.declared.visibility.Visibility.{Visibility}
-use Rattle.link_ids.specs.declared.visibility.Visibility.TheVariants.{Default}
+use Rattle.link_flags.specs.declared.strength.SymbolStrength.{SymbolStrength}
+use Rattle.link_flags.specs.declared.strength.SymbolStrength.TheVariants.{Undefined, Weak, Strong}
+use Rattle.link_flags.specs.declared.visibility.Visibility.{Visibility}
+use Rattle.link_flags.specs.declared.visibility.Visibility.TheVariants.{Default}
 use Rattle.link_input.specs.declared.internal_symbols.InternalSymDefInfo.{InternalSymDefInfo}
 use Rattle.link_input.specs.declared.symbol_entry.SymbolEntry.{SymbolEntry}
 use Rattle.link_input.specs.declared.world.StubSymbol.{StubSymbol}

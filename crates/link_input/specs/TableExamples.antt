@@ -1,6 +1,6 @@
 -- Small tables, for worked examples.
 use Rattle.std.specs.Prelude.{ℕ, List, [], true, false, None, codes}
-use Rattle.link_ids.specs.declared.visibility.Visibility.TheVariants.{Default}
+use Rattle.link_flags.specs.declared.visibility.Visibility.TheVariants.{Default}
 use Rattle.link_input.specs.declared.symbol_entry.SymbolEntry.{SymbolEntry}
 use Rattle.link_input.specs.declared.symbol_entry.Place.{Place}
 use Rattle.link_input.specs.declared.symbol_entry.Place.TheVariants.{Undefined as Nowhere, Section}

@@ -5,7 +5,7 @@ ghost use Rattle.link_input.specs.declared.internal_symbols.SymbolPlacement.TheV
 ghost use Rattle.link_input.specs.Adding.{LendsAdded, visible};
 
 use crate::internal_symbols::{InternalSymDefInfo, SymbolPlacement};
-use link_ids::{Name, Seq};
+use link_names::{Name, Seq};
 use std::alloc::{AllocError, Global};
 use std::marker::Model;
 

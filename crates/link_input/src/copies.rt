@@ -2,7 +2,7 @@
 ghost use Rattle.std.specs.Prelude.{◌≡◌, IfOk};
 
 use crate::internal_symbols::{InternalSymDefInfo, Redirect, SymbolPlacement};
-use link_ids::{Name, Seq};
+use link_names::{Name, Seq};
 use std::alloc::{AllocError, Global};
 
 // Copies of names, in order.

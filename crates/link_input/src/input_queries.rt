@@ -15,7 +15,7 @@ impl ProcessedLinkerScript {
 
 impl fmt::Display for ProcessedLinkerScript {
     ghost use Rattle.std.specs.Prelude.{Some};
-    ghost use Rattle.link_ids.specs.NameText.{name_text};
+    ghost use Rattle.link_names.specs.NameText.{name_text};
 
     ghost output = { λ s. Some (name_text s.input) };
 
@@ -37,7 +37,7 @@ impl StubLibrary {
 
 impl fmt::Display for StubLibrary {
     ghost use Rattle.std.specs.Prelude.{Some};
-    ghost use Rattle.link_ids.specs.NameText.{name_text};
+    ghost use Rattle.link_names.specs.NameText.{name_text};
 
     ghost output = { λ s. Some (name_text s.input) };
 

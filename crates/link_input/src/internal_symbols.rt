@@ -1,5 +1,5 @@
 // Symbols that no object gives: the linker's own, those of the options, and those of linker scripts.
-use link_ids::{Name, Seq};
+use link_names::{Name, Seq};
 
 /// Who defined a symbol as another name: `--defsym`, or a linker script, there perhaps by `PROVIDE`.
 #[derive(Clone, Copy, Debug, PartialEq, Eq)]

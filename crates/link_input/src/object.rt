@@ -8,7 +8,8 @@ use crate::checks::first_fault;
 use crate::platform::Platform;
 use crate::symbol_entry::SymbolEntry;
 use crate::table_error::TableError;
-use link_ids::{Name, SectionIndex, Seq, SymbolIndex};
+use link_ids::{SectionIndex, SymbolIndex};
+use link_names::{Name, Seq};
 use std::alloc::Global;
 use std::marker::{Model, PhantomData};
 

@@ -3,7 +3,7 @@ ghost use Rattle.std.specs.Prelude.{◌≡◌};
 ghost use Rattle.link_input.specs.Defaults.{default_options};
 
 use crate::internal_symbols::InternalSymDefInfo;
-use link_ids::{Name, Seq};
+use link_names::{Name, Seq};
 use std::alloc::Global;
 
 /// What is linked.

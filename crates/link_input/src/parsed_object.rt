@@ -3,7 +3,7 @@ ghost use Rattle.std.specs.Prelude.{◌≡◌, length};
 
 use crate::object::InputObject;
 use crate::platform::Platform;
-use link_ids::Name;
+use link_names::Name;
 use std::fmt;
 use std::marker::Model;
 
@@ -84,7 +84,7 @@ impl<P: Platform> ParsedInputObject<P> {
 
 impl<P: Platform> fmt::Display for ParsedInputObject<P> {
     ghost use Rattle.std.specs.Prelude.{Some};
-    ghost use Rattle.link_ids.specs.NameText.{name_text};
+    ghost use Rattle.link_names.specs.NameText.{name_text};
 
     ghost output = { λ o. Some (name_text o.input) };
 

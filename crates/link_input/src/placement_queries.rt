@@ -5,7 +5,7 @@ ghost use Rattle.link_input.specs.Locations.{loc_section, relative_section, plac
 ghost use Rattle.link_input.specs.RedirectText.{is_provide, missing_target_text, missing_resolution_text};
 
 use crate::internal_symbols::{InternalSymDefInfo, RedirectKind, SymbolLoc, SymbolPlacement};
-use link_ids::Name;
+use link_names::Name;
 use std::alloc::{AllocError, Global};
 use std::fmt;
 

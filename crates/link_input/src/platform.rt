@@ -1,7 +1,7 @@
 // What differs from platform to platform.
 ghost use Rattle.std.specs.Prelude.{◌≡◌, ℕ, Bool, true, false, List, Option, Result, Ok, IfOk, IfErr};
-ghost use Rattle.link_script.specs.declared.fault.Fault.{Fault};
-ghost use Rattle.link_script.specs.Fault.{Refuses};
+ghost use Rattle.link_syntax.specs.declared.fault.Fault.{Fault};
+ghost use Rattle.link_syntax.specs.Fault.{Refuses};
 ghost use Rattle.link_script.specs.ListedNames.{ListedNames, IsListNamed, gnu_names, macho_names};
 ghost use Rattle.link_input.specs.declared.symbol_entry.SymbolEntry.{SymbolEntry};
 ghost use Rattle.link_input.specs.declared.options.OutputKind.{OutputKind};
@@ -9,8 +9,9 @@ ghost use Rattle.link_input.specs.Interposition.{keeps_place};
 
 use crate::options::OutputKind;
 use crate::symbol_entry::SymbolEntry;
-use link_ids::Visibility;
-use link_script::{ExportList, ScriptFault};
+use link_flags::Visibility;
+use link_script::ExportList;
+use link_syntax::ScriptFault;
 use std::alloc::Global;
 
 /// A platform: its constants, and rules that are functions of their arguments. Mirrors Wild's `Platform`.

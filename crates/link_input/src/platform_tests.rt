@@ -1,6 +1,7 @@
 // Tests of the readers of export lists.
 use crate::{ElfLike, MachLike, Platform};
-use link_script::{ExportList, Plain, ScriptFault};
+use link_script::{ExportList, Plain};
+use link_syntax::ScriptFault;
 use std::alloc::Global;
 use std::test::Fail;
 

@@ -4,7 +4,8 @@ ghost use Rattle.link_input.specs.PreludeSymbols.{forced_symbol, prelude_symbols
 
 use crate::internal_symbols::{InternalSymDefInfo, SymbolPlacement};
 use crate::options::Options;
-use link_ids::{Name, Seq, SymbolId, SymbolIdRange};
+use link_ids::{SymbolId, SymbolIdRange};
+use link_names::{Name, Seq};
 use std::alloc::{AllocError, Global};
 use std::marker::Model;
 

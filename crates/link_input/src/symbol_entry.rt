@@ -1,5 +1,6 @@
 // One entry of the symbol table of an object.
-use link_ids::{Name, Visibility};
+use link_flags::Visibility;
+use link_names::Name;
 
 /// How a symbol binds (ELF gABI, "Symbol Table", `STB_LOCAL`, `STB_GLOBAL`, `STB_WEAK`; `STB_GNU_UNIQUE`).
 #[derive(Clone, Copy, Debug, PartialEq, Eq)]

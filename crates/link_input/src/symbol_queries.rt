@@ -5,7 +5,8 @@ ghost use Rattle.link_input.specs.BindingStrength.{binding_strength};
 ghost use Rattle.link_input.specs.Checks.{is_null};
 
 use crate::symbol_entry::{Place, SymbolBinding, SymbolEntry, SymbolKind};
-use link_ids::{SectionIndex, SymbolStrength, Visibility};
+use link_flags::{SymbolStrength, Visibility};
+use link_ids::SectionIndex;
 
 impl SymbolEntry {
     /// It stands for no symbol (ELF gABI, "Symbol Table", index 0): undefined, local, of the empty name and no version, and

@@ -3,7 +3,9 @@ use crate::{
     ElfLike, InputObject, MachLike, ObjectTable, Place, Platform, SectionGroup, SymbolBinding,
     SymbolEntry, SymbolKind, TableError,
 };
-use link_ids::{Name, SectionIndex, Seq, SymbolIndex, Visibility};
+use link_flags::Visibility;
+use link_ids::{SectionIndex, SymbolIndex};
+use link_names::{Name, Seq};
 use std::alloc::{AllocError, Global};
 use std::test::Fail;
 

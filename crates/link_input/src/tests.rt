@@ -2,7 +2,7 @@
 use crate::{
     InternalSymDefInfo, LocationCounter, Redirect, RedirectKind, SymbolLoc, SymbolPlacement,
 };
-use link_ids::{Name, Seq};
+use link_names::{Name, Seq};
 use std::test::Fail;
 
 #[test]

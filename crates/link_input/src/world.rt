@@ -3,7 +3,7 @@ use crate::internal_symbols::InternalSymDefInfo;
 use crate::options::Options;
 use crate::parsed_object::ParsedInputObject;
 use crate::platform::Platform;
-use link_ids::{Name, Seq};
+use link_names::{Name, Seq};
 
 /// A linker script, of which its entry, its version script and its symbols are kept.
 #[derive(Debug, Drop)]

@@ -1,7 +1,7 @@
 -- How a fault of a manifest is written.
 use Rattle.std.specs.Prelude.{ℕ, List, [], ◌∷◌, ◌++◌, codes, decimal}
 use Rattle.std.specs.List.{flat_map}
-use Rattle.link_ids.specs.NameText.{name_text}
+use Rattle.link_names.specs.NameText.{name_text}
 use Rattle.link_input.specs.TableErrorText.{table_error_text}
 use Rattle.link_manifest.specs.declared.fault.Step.{Step}
 use Rattle.link_manifest.specs.declared.fault.Step.TheVariants.{Key, Item}

@@ -1,6 +1,6 @@
 // What a manifest says, before any table of it is checked; no platform stands in its type.
-use link_ids::{Name, Seq};
 use link_input::{Modifiers, ObjectTable, Options};
+use link_names::{Name, Seq};
 use std::marker::Model;
 
 /// An object whose table is not checked. A contract sees the name of its file, the table and the modifiers.

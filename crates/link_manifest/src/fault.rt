@@ -4,8 +4,8 @@ ghost use Rattle.std.specs.Fmt.{WritesOnOk};
 ghost use Rattle.link_manifest.specs.declared.fault.ManifestError.TheVariants.{Memory};
 ghost use Rattle.link_manifest.specs.FaultText.{kind_text, problem_text, first_step_text, step_text, path_text, fault_text};
 
-use link_ids::{Name, Seq};
 use link_input::TableError;
+use link_names::{Name, Seq};
 use std::alloc::{AllocError, AllocFailed};
 use std::fmt;
 

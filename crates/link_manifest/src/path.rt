@@ -6,7 +6,7 @@ ghost use Rattle.link_manifest.specs.declared.fault.ManifestError.TheVariants.{A
 ghost use Rattle.link_manifest.specs.Reading.{fault_here, outward, within, IsSeenFrom, Reads};
 
 use crate::fault::{ManifestError, ManifestFault, Problem, Step};
-use link_ids::{Name, Seq};
+use link_names::{Name, Seq};
 use std::alloc::{AllocError, Global};
 
 /// A fault of the value itself.

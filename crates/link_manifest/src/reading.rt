@@ -9,7 +9,7 @@ ghost use Rattle.link_manifest.specs.Reading.{unknown_key, none_unknown, object_
 
 use crate::fault::{Kind, ManifestError, Problem};
 use crate::path::{at_item, at_key, error_at_key, fault_here};
-use link_ids::Seq;
+use link_names::Seq;
 use serde_json::{Map, Value};
 use std::alloc::Global;
 

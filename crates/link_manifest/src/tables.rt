@@ -8,8 +8,8 @@ ghost use Rattle.link_manifest.specs.Reading.{and_read, within, IsFaultOf, Reads
 use crate::contents::UncheckedObject;
 use crate::fault::{ManifestError, Problem};
 use crate::path::{at_key, error_at_item, fault_here};
-use link_ids::Seq;
 use link_input::{InputObject, ParsedInputObject, Platform, TableError};
+use link_names::Seq;
 use std::alloc::Global;
 
 /// The object with this place, where its table passes the checks.

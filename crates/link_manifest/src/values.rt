@@ -11,8 +11,8 @@ use crate::fault::{Kind, ManifestError, Problem};
 use crate::path::fault_here;
 use crate::reading::Readable;
 use hex::FromHexError;
-use link_ids::Name;
 use link_input::Place;
+use link_names::Name;
 use serde_json::{Map, Value};
 use std::alloc::Global;
 

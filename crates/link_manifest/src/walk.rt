@@ -9,8 +9,9 @@ use crate::contents::{Contents, UncheckedObject};
 use crate::fault::ManifestError;
 use crate::reading::{Readable, object_of_keys, optional, optional_list, required};
 use crate::values::{Bytes, Flag, GroupSize, Number, SymbolPlace, Text};
-use link_ids::{Name, Seq, Visibility};
+use link_flags::Visibility;
 use link_input::{Modifiers, ObjectTable, Options, Place, SymbolBinding, SymbolEntry, SymbolKind};
+use link_names::{Name, Seq};
 use serde_json::Value;
 use std::alloc::Global;
 

@@ -4,10 +4,10 @@ ghost use Rattle.std.specs.List.{flat_map};
 ghost use Rattle.link_rules.specs.Report.{kind_text, origin_text, refusal_text, separated_lines};
 ghost use Rattle.link_rules.specs.declared.refusal.LinkError.TheVariants.{Script, SectionInTwoGroups, UndefinedVersion};
 
-use link_ids::Name;
 use link_input::TooManyKind;
+use link_names::Name;
 use link_rules::{LinkError, ScriptOrigin};
-use link_script::ScriptError;
+use link_syntax::ScriptError;
 use std::alloc::{AllocError, Global};
 use std::fmt::Write;
 

@@ -1,13 +1,15 @@
 // The report of a link.
 ghost use Rattle.std.specs.Prelude.{◌≡◌, ◌++◌, IfOk, OnOk, codes, decimal, slice_index, string_bytes};
 ghost use Rattle.std.specs.List.{flat_map};
-ghost use Rattle.link_ids.specs.FlagText.{flags_text};
+ghost use Rattle.link_flags.specs.FlagText.{flags_text};
 ghost use Rattle.link_rules.specs.Places.{each_from};
 ghost use Rattle.link_rules.specs.Rivals.{two_steps};
 ghost use Rattle.link_rules.specs.Report.{loaded_line, kept_line, flags_at, symbol_line, symbol_name, version_line, version_text, undefined_line, missing_line, joined_lines, report_text};
 
 use bitflags::Flags;
-use link_ids::{Name, SymbolId, ValueFlags};
+use link_flags::ValueFlags;
+use link_ids::SymbolId;
+use link_names::Name;
 use link_rules::{GivenVersion, KeptGroup, Linked, LoadedObject, UndefinedName};
 use std::alloc::{AllocError, Global};
 use std::fmt::Write;

@@ -1,12 +1,14 @@
 // The texts themselves, and that each call succeeds with ample memory.
 use crate::{refusal_text, report_text};
 use bitflags::Flags;
-use link_ids::{Name, Seq, SymbolId, ValueFlags};
+use link_flags::ValueFlags;
+use link_ids::SymbolId;
 use link_input::TooManyKind;
+use link_names::{Name, Seq};
 use link_rules::{
     GivenVersion, KeptGroup, LinkError, Linked, LoadedObject, ScriptOrigin, UndefinedName,
 };
-use link_script::{Language, ScriptError, ScriptErrorKind};
+use link_syntax::{Language, ScriptError, ScriptErrorKind};
 use std::alloc::{AllocError, Global};
 use std::test::Fail;
 

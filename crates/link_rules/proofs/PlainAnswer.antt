@@ -17,7 +17,7 @@ use Rattle.link_rules.specs.Selection.{Selection, selection_of}
 use Rattle.link_rules.specs.Undefined.{Numbered, Resolution, resolution_of, is_last_alike, stays_undefined, is_boundary_maker, left_undefined}
 use Rattle.link_rules.specs.FinalFlags.{final_flags}
 use Rattle.link_rules.specs.Refusals.{group_refusal}
-use Rattle.link_ids.specs.declared.value_flags.ValueFlags.{ValueFlags}
+use Rattle.link_flags.specs.declared.value_flags.ValueFlags.{ValueFlags}
 use Rattle.link_rules.specs.Plain.Loading as loading
 use Rattle.link_rules.specs.Versions.{given_version, version_given, versions_given}
 use Rattle.link_rules.specs.Answer.{End, BatchesEnd, linked_from, loaded_objects, kept_comdats, symbol_names, undefined_names, IsLinked, IsRefused}

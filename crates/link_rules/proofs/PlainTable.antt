@@ -6,9 +6,9 @@ use Rattle.std.specs.Option.{option_map_or, option_or}
 use Rattle.std.specs.List.{AllByRecursion, cons_option, filter_map}
 use Rattle.std.specs.Str.{bytes_eq}
 use Rattle.std.proofs.lemmas.Slice.Eq.{bytes_eq-Decides}
-use Rattle.link_ids.specs.declared.strength.SymbolStrength.{SymbolStrength}
-use Rattle.link_ids.specs.declared.strength.SymbolStrength.TheVariants.{Undefined, Strong}
-use Rattle.link_ids.specs.Pick.{Candidate, is_strong, is_weak, common_of, first_strong, first_weak, largest_common, is_largest}
+use Rattle.link_flags.specs.declared.strength.SymbolStrength.{SymbolStrength}
+use Rattle.link_flags.specs.declared.strength.SymbolStrength.TheVariants.{Undefined, Strong}
+use Rattle.link_flags.specs.Pick.{Candidate, is_strong, is_weak, common_of, first_strong, first_weak, largest_common, is_largest}
 use Rattle.link_input.specs.declared.symbol_entry.SymbolEntry.{SymbolEntry}
 use Rattle.link_input.specs.Entries.{is_undefined, is_local, is_hidden}
 use Rattle.link_input.specs.ObjectFile.{ObjectFile}

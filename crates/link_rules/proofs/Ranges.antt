@@ -3,7 +3,7 @@ use Rattle.std.proofs.Common.{◌≡◌, ℕ, [], Bool, true, false, cond, refl,
 use Rattle.std.specs.Prelude.{◌&&◌, not, option_and_then}
 use Rattle.std.specs.Option.{option_map_or}
 use Rattle.std.specs.Str.{bytes_eq}
-use Rattle.link_ids.specs.Pick.{pick}
+use Rattle.link_flags.specs.Pick.{pick}
 use Rattle.link_input.specs.Symbols.{Symbol, is_shared}
 use Rattle.link_rules.specs.Places.{Bytes, same_version, behind_head}
 use Rattle.link_rules.specs.World.{Stage, holds_at}

@@ -2,10 +2,10 @@
 use Rattle.std.proofs.Common.{◌≡◌, ℕ, zero, suc, ◌+◌, List, [], ◌∷◌, Bool, true, false, map, cond, refl, sym, ◌∙◌, ap, subst, inl, inr, ◌⊎◌, arith, Some, None, Option, Contains, slice_get, slice_index, find, filter, option_map, unwrap_or, is_none}
 use Rattle.std.specs.Prelude.{codes, ◌++◌, fold, option_and_then, ◌==◌, ◌&&◌, not}
 use Rattle.std.specs.Option.{option_or, option_map_or}
-use Rattle.link_ids.specs.declared.strength.SymbolStrength.{SymbolStrength}
-use Rattle.link_ids.specs.declared.strength.SymbolStrength.TheVariants.{Undefined, Weak, GnuUnique, Strong, Common}
+use Rattle.link_flags.specs.declared.strength.SymbolStrength.{SymbolStrength}
+use Rattle.link_flags.specs.declared.strength.SymbolStrength.TheVariants.{Undefined, Weak, GnuUnique, Strong, Common}
 use Rattle.std.specs.List.{filter_map}
-use Rattle.link_ids.specs.Pick.{Candidate, pick, first_strong, first_weak, largest_common, is_strong, is_weak, is_largest, common_of}
+use Rattle.link_flags.specs.Pick.{Candidate, pick, first_strong, first_weak, largest_common, is_strong, is_weak, is_largest, common_of}
 use Rattle.link_rules.specs.Places.{Bytes, each_from, places_from, kept_if, first_of, are_several, behind_head}
 use Rattle.link_rules.specs.Targets.{target, name_table, unshared_in, beside_in, mapped_in, is_open, strength_at}
 use Rattle.link_input.specs.declared.internal_symbols.SymbolPlacement.{SymbolPlacement}

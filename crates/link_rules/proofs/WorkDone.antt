@@ -12,7 +12,7 @@ use Rattle.link_closure.specs.declared.workload.Mark.{Mark}
 use Rattle.link_closure.specs.Workload as work
 use Rattle.link_closure.specs.Workload.{IsWithin, bits_for, item_bits}
 use Rattle.link_closure.proofs.Joins.{within_trans, within_left, within_right, within_both, within_same, bits_has, bits_within, item_has, item_within, contains_append, contains_left}
-use Rattle.link_ids.specs.FlagBits as flag
+use Rattle.link_flags.specs.FlagBits as flag
 use Rattle.link_input.specs.Symbols.{Symbol, object_in, is_shared}
 use Rattle.link_rules.specs.Places.{Bytes, each_from}
 use Rattle.link_rules.specs.World.{World, Stage, is_reference, is_shared_at, object_of}

@@ -1,7 +1,7 @@
 -- Tiny worlds, each of which one reading of a rule answers otherwise than another. None has a null entry, so an object's first
 -- symbol is its first entry, and symbol 1 is the first of all objects.
 use Rattle.std.specs.Prelude.{ℕ, List, [], ◌∷◌, Bool, true, false, Option, Some, None, Ok, codes, slice_index}
-use Rattle.link_ids.specs.declared.visibility.Visibility.TheVariants.{Default, Protected, Hidden}
+use Rattle.link_flags.specs.declared.visibility.Visibility.TheVariants.{Default, Protected, Hidden}
 use Rattle.link_input.specs.declared.symbol_entry.SymbolEntry.{SymbolEntry}
 use Rattle.link_input.specs.declared.symbol_entry.Place.TheVariants.{Undefined, Section}
 use Rattle.link_input.specs.declared.symbol_entry.SymbolBinding.TheVariants.{Local, Global, Weak}
@@ -10,8 +10,8 @@ use Rattle.link_input.specs.declared.options.Options.{Options}
 use Rattle.link_input.specs.declared.options.OutputKind.TheVariants.{SharedObject}
 use Rattle.link_input.specs.Defaults.{default_options}
 use Rattle.link_input.specs.ObjectFile.{ObjectFile}
-use Rattle.link_script.specs.declared.fault.ScriptError.{ScriptError}
-use Rattle.link_script.specs.declared.fault.ScriptErrorKind.TheVariants.{Syntax}
+use Rattle.link_syntax.specs.declared.fault.ScriptError.{ScriptError}
+use Rattle.link_syntax.specs.declared.fault.ScriptErrorKind.TheVariants.{Syntax}
 use Rattle.link_rules.specs.Places.{Bytes}
 use Rattle.link_rules.specs.Rules.{Rules, rules_of, elf_like}
 use Rattle.link_rules.specs.World.{World, Stage, first_stage, world_with}

@@ -2,7 +2,7 @@
 use Rattle.std.specs.Prelude.{ℕ, ◌+◌, ◌==◌, ◌&&◌, ◌||◌, List, [], ◌∷◌, ◌++◌, map, filter, length, Bool, true, false, not, Option, None, is_some, is_none, if◌then◌else◌, slice_index, option_map}
 use Rattle.std.specs.Int.RustNames.{bit_or}
 use Rattle.std.specs.Option.{option_or}
-use Rattle.link_ids.specs.FlagBits as flag
+use Rattle.link_flags.specs.FlagBits as flag
 use Rattle.link_input.specs.declared.options.OutputKind.{OutputKind}
 use Rattle.link_input.specs.declared.options.OutputKind.TheVariants.{StaticExecutable, DynamicExecutable, SharedObject, Partial}
 use Rattle.link_input.specs.Interposition.{is_default_visibility}

@@ -4,9 +4,9 @@ use Rattle.std.specs.Int.RustNames.{bit_or}
 use Rattle.std.specs.List.{flat_map}
 use Rattle.link_closure.specs.Workload.{bits_for}
 use Rattle.link_closure.specs.declared.workload.Mark.{Mark}
-use Rattle.link_ids.specs.FlagBits as flag
-use Rattle.link_ids.specs.declared.visibility.Visibility.{Visibility}
-use Rattle.link_ids.specs.declared.visibility.Visibility.TheVariants.{Default, Protected, Hidden}
+use Rattle.link_flags.specs.FlagBits as flag
+use Rattle.link_flags.specs.declared.visibility.Visibility.{Visibility}
+use Rattle.link_flags.specs.declared.visibility.Visibility.TheVariants.{Default, Protected, Hidden}
 use Rattle.link_input.specs.Symbols.{Symbol, visibility_in}
 use Rattle.link_rules.specs.Places.{each_from}
 use Rattle.link_rules.specs.Flags.{flags_if}

@@ -1,7 +1,7 @@
 -- The flags of a symbol as its file is read, before anything is loaded.
 use Rattle.std.specs.Prelude.{ℕ, ◌||◌, [], ◌∷◌, Bool, true, false, not, is_some, if◌then◌else◌, option_map}
 use Rattle.std.specs.Int.RustNames.{bit_or}
-use Rattle.link_ids.specs.FlagBits as flag
+use Rattle.link_flags.specs.FlagBits as flag
 use Rattle.link_input.specs.declared.symbol_entry.SymbolEntry.{SymbolEntry}
 use Rattle.link_input.specs.declared.internal_symbols.SymbolLoc.{SymbolLoc}
 use Rattle.link_input.specs.declared.internal_symbols.SymbolLoc.TheVariants as loc

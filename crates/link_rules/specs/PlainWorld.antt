@@ -1,7 +1,7 @@
 -- What a manifest can say today: a link of plain objects.
 use Rattle.std.specs.Prelude.{◌≡◌, [], true, false, None}
 use Rattle.std.specs.List.{AllByRecursion}
-use Rattle.link_ids.specs.declared.visibility.Visibility.TheVariants.{Default}
+use Rattle.link_flags.specs.declared.visibility.Visibility.TheVariants.{Default}
 use Rattle.link_input.specs.declared.symbol_entry.SymbolEntry.{SymbolEntry}
 use Rattle.link_input.specs.declared.symbol_entry.SymbolKind.TheVariants.{Plain}
 use Rattle.link_input.specs.Defaults.{default_options}

@@ -2,14 +2,14 @@
 use Rattle.std.specs.Prelude.{ℕ, ◌+◌, ◌&&◌, ◌||◌, List, [], ◌∷◌, ◌++◌, map, filter_map, length, Bool, Option, Some, None, is_some, if◌then◌else◌, slice_get, option_map, option_and_then, codes}
 use Rattle.std.specs.Option.{option_map_or, option_or}
 use Rattle.std.specs.List.{enumerate_from, flat_map}
-use Rattle.link_ids.specs.NameText.{name_text}
+use Rattle.link_names.specs.NameText.{name_text}
 use Rattle.link_input.specs.declared.world.ProcessedLinkerScript.{ProcessedLinkerScript}
 use Rattle.link_input.specs.ObjectFile.{ObjectFile}
 use Rattle.link_input.specs.InputFiles.{Batch}
 use Rattle.link_input.specs.Limits.{Counts, Excess, first_excess, section_total, with_boundaries}
-use Rattle.link_script.specs.declared.fault.ScriptError.{ScriptError}
-use Rattle.link_script.specs.ForcedName.{forced_name}
-use Rattle.link_script.specs.Script.{script_at}
+use Rattle.link_syntax.specs.declared.fault.ScriptError.{ScriptError}
+use Rattle.link_syntax.specs.ForcedName.{forced_name}
+use Rattle.link_syntax.specs.Script.{script_at}
 use Rattle.link_rules.specs.declared.refusal.ScriptOrigin.{ScriptOrigin}
 use Rattle.link_rules.specs.declared.refusal.ScriptOrigin.TheVariants.{VersionScript, ExportList, ForcedExport, LinkerScript}
 use Rattle.link_rules.specs.declared.refusal.LinkError.{LinkError}

@@ -2,12 +2,12 @@
 use Rattle.std.specs.Prelude.{ℕ, List, [], ◌∷◌, ◌++◌, Option, Some, None, codes, decimal, slice_get}
 use Rattle.std.specs.Option.{option_map_or}
 use Rattle.std.specs.List.{flat_map}
-use Rattle.link_ids.specs.NameText.{name_text}
-use Rattle.link_ids.specs.FlagText.{flags_text}
-use Rattle.link_script.specs.ErrorText.{error_text}
+use Rattle.link_names.specs.NameText.{name_text}
+use Rattle.link_flags.specs.FlagText.{flags_text}
+use Rattle.link_syntax.specs.ErrorText.{error_text}
 use Rattle.link_rules.specs.declared.linked.LoadedObject.{LoadedObject}
 use Rattle.link_rules.specs.declared.linked.KeptGroup.{KeptGroup}
-use Rattle.link_ids.specs.declared.value_flags.ValueFlags.{ValueFlags}
+use Rattle.link_flags.specs.declared.value_flags.ValueFlags.{ValueFlags}
 use Rattle.link_rules.specs.Rivals.{two_steps}
 use Rattle.link_rules.specs.declared.linked.GivenVersion.{GivenVersion}
 use Rattle.link_rules.specs.declared.linked.UndefinedName.{UndefinedName}

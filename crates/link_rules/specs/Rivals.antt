@@ -1,9 +1,9 @@
 -- Which of several definitions of a name counts, and what each symbol points to.
 use Rattle.std.specs.Prelude.{ℕ, ◌&&◌, List, [], map, filter, find, Bool, true, false, not, Option, None, is_none, if◌then◌else◌, unwrap_or, slice_index}
 use Rattle.std.specs.Option.{option_map_or, option_or}
-use Rattle.link_ids.specs.declared.strength.SymbolStrength.{SymbolStrength}
-use Rattle.link_ids.specs.declared.strength.SymbolStrength.TheVariants.{Undefined, Weak, GnuUnique, Strong, Common}
-use Rattle.link_ids.specs.Pick.{Candidate, pick, is_strong}
+use Rattle.link_flags.specs.declared.strength.SymbolStrength.{SymbolStrength}
+use Rattle.link_flags.specs.declared.strength.SymbolStrength.TheVariants.{Undefined, Weak, GnuUnique, Strong, Common}
+use Rattle.link_flags.specs.Pick.{Candidate, pick, is_strong}
 use Rattle.link_closure.specs.Closure.{is_marked}
 use Rattle.link_rules.specs.Places.{each_from, first_of, first_two, are_several}
 use Rattle.link_input.specs.Symbols.{Symbol, Origin, in_prelude, in_object, in_script, in_stub}

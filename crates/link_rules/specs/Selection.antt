@@ -1,8 +1,8 @@
 -- What follows for each symbol once the loaded objects are known: its target and its surviving strength.
 use Rattle.std.specs.Prelude.{ℕ, ◌&&◌, List, map, Bool, false, Option, None, if◌then◌else◌, slice_get}
 use Rattle.std.specs.Option.{option_map_or}
-use Rattle.link_ids.specs.declared.strength.SymbolStrength.{SymbolStrength}
-use Rattle.link_ids.specs.declared.strength.SymbolStrength.TheVariants.{Undefined}
+use Rattle.link_flags.specs.declared.strength.SymbolStrength.{SymbolStrength}
+use Rattle.link_flags.specs.declared.strength.SymbolStrength.TheVariants.{Undefined}
 use Rattle.link_closure.specs.Closure.{is_marked}
 use Rattle.link_input.specs.declared.symbol_entry.Place.{Place}
 use Rattle.link_input.specs.BindingStrength.{binding_strength}

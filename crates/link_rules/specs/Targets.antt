@@ -1,9 +1,9 @@
 -- What a reference stands for.
 use Rattle.std.specs.Prelude.{ℕ, ◌||◌, List, map, filter, true, not, Bool, Option, Some, None, if◌then◌else◌, slice_get, option_and_then}
 use Rattle.std.specs.Option.{option_map_or, option_or}
-use Rattle.link_ids.specs.declared.strength.SymbolStrength.{SymbolStrength}
-use Rattle.link_ids.specs.declared.strength.SymbolStrength.TheVariants.{Undefined}
-use Rattle.link_ids.specs.Pick.{Candidate, pick}
+use Rattle.link_flags.specs.declared.strength.SymbolStrength.{SymbolStrength}
+use Rattle.link_flags.specs.declared.strength.SymbolStrength.TheVariants.{Undefined}
+use Rattle.link_flags.specs.Pick.{Candidate, pick}
 use Rattle.link_input.specs.Interposition.{is_default_visibility}
 use Rattle.link_input.specs.Symbols.{Symbol, binding_strength, entry_passes}
 use Rattle.link_rules.specs.Places.{Bytes}

@@ -2,11 +2,11 @@
 use Rattle.std.specs.Prelude.{ℕ, ◌&&◌, List, map, filter_map, fold, false, not, Option, Some, None, if◌then◌else◌, slice_get, slice_index}
 use Rattle.std.specs.Int.RustNames.{bit_or}
 use Rattle.std.specs.Option.{option_map_or}
-use Rattle.link_ids.specs.FlagBits as flag
-use Rattle.link_ids.specs.FlagBits.{has}
-use Rattle.link_ids.specs.Strictness as visibility
-use Rattle.link_ids.specs.declared.visibility.Visibility.{Visibility}
-use Rattle.link_ids.specs.declared.visibility.Visibility.TheVariants.{Default}
+use Rattle.link_flags.specs.FlagBits as flag
+use Rattle.link_flags.specs.FlagBits.{has}
+use Rattle.link_flags.specs.Strictness as visibility
+use Rattle.link_flags.specs.declared.visibility.Visibility.{Visibility}
+use Rattle.link_flags.specs.declared.visibility.Visibility.TheVariants.{Default}
 use Rattle.link_rules.specs.Places.{Bytes, each_from, are_several, contains}
 use Rattle.link_rules.specs.Flags.{flags_if, without_flag}
 use Rattle.link_input.specs.Symbols.{Symbol, is_shared}

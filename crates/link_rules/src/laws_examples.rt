@@ -1,8 +1,8 @@
 // Tiny worlds, which the checker computes: each tells a definition from one that is nearly the same.
 ghost use Rattle.std.specs.Prelude.{◌≡◌, List, [], ◌∷◌, false, true, Some, None, codes, map};
 ghost use Rattle.std.specs.Int.RustNames.{bit_or};
-ghost use Rattle.link_ids.specs.FlagBits as flag;
-ghost use Rattle.link_ids.specs.declared.strength.SymbolStrength.TheVariants.{Undefined, Strong};
+ghost use Rattle.link_flags.specs.FlagBits as flag;
+ghost use Rattle.link_flags.specs.declared.strength.SymbolStrength.TheVariants.{Undefined, Strong};
 ghost use Rattle.link_input.specs.declared.internal_symbols.SymbolLoc.TheVariants as loc;
 ghost use Rattle.link_input.specs.declared.too_many.TooManyKind.TheVariants.{LinkerScripts, Objects, Sections, StubLibraries, Symbols};
 ghost use Rattle.link_rules.specs.declared.refusal.LinkError.TheVariants.{LateVersionScript, Memory, MultipleVersionScripts, Script, TooMany};

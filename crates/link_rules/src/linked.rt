@@ -1,5 +1,7 @@
 // What a link gives.
-use link_ids::{Name, Seq, SymbolId, ValueFlags};
+use link_flags::ValueFlags;
+use link_ids::SymbolId;
+use link_names::{Name, Seq};
 
 /// A loaded object, with its place among the objects, from 0.
 #[derive(Debug, Drop)]

@@ -1,7 +1,7 @@
 // Why a link is refused.
-use link_ids::{Name, Seq};
 use link_input::TooManyKind;
-use link_script::ScriptError;
+use link_names::{Name, Seq};
+use link_syntax::ScriptError;
 use std::alloc::AllocError;
 
 /// Which text of a link a script is. Forced export names and linker scripts count from 0.

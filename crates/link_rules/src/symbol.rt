@@ -1,6 +1,6 @@
 // A symbol of a link.
-use link_ids::Name;
 use link_input::{Place, SymbolBinding};
+use link_names::Name;
 
 /// A symbol of a link: what the rules read of an entry, and the object that holds it. Its id is its place in the list of
 /// all symbols.

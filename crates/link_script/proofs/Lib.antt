@@ -1,12 +1,4 @@
-pub mod Repeat
-pub mod Sections
-pub mod Growing
-pub mod Skipping
-pub mod Spelled
-pub mod FirstClose
 pub mod Asked
-pub mod NamesLemmas
-pub mod Numbers
 pub mod VersionIndex
 pub mod Indexed
 pub mod Pushing
@@ -15,12 +7,5 @@ pub mod Listed
 pub mod Reading
 pub mod RustForm
 pub mod Declared
-pub mod LineByLine
 pub mod Listing
-pub mod Places
-pub mod Repeated
-pub mod BlockLaws
-pub mod BodyLaws
-pub mod ScriptLaws
-pub mod ListLaws
 pub mod Answered

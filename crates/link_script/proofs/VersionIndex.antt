@@ -12,11 +12,11 @@ use Rattle.std.proofs.lemmas.Bool.Decides.{same_from_decides, Decides-like}
 use Rattle.link_script.specs.declared.rules.Version.{Version}
 use Rattle.link_script.specs.declared.rules.Class.{Class}
 use Rattle.link_script.specs.declared.rules.Class.TheVariants.{Exact}
-use Rattle.link_script.specs.declared.body.Side.TheVariants.{Global, Local}
+use Rattle.link_syntax.specs.declared.body.Side.TheVariants.{Global, Local}
 use Rattle.link_script.specs.declared.version_index.VersionIndex.{VersionIndex}
 use Rattle.link_script.specs.Filter.{rules_of}
 use Rattle.link_script.specs.Lookup.{Asked, name_of}
-use Rattle.link_script.specs.Names.{number_in}
+use Rattle.link_names.specs.Names.{number_in}
 use Rattle.link_script.specs.Rules.{exact_fits, plain_fits, cxx_fits, version_has, side_in}
 use Rattle.link_script.specs.VersionOf.{is_named, last_named}
 use Rattle.link_script.specs.VersionIndex.{lists, first_listing, first_exact, earlier, has_at, numbers_with, IsIndexOf}

@@ -1,14 +1,3 @@
-pub mod Words
-pub mod Fault
-pub mod Skip
-pub mod Blanks
-pub mod Token
-pub mod Many
-pub mod Block
-pub mod Entry
-pub mod Body
-pub mod Named
-pub mod Names
 pub mod Filter
 pub mod Room
 pub mod Lookup
@@ -19,12 +8,6 @@ pub mod Regular
 pub mod VersionOf
 pub mod VersionIndex
 pub mod Script
-pub mod ErrorText
-pub mod GnuList
-pub mod ForcedName
-pub mod MachoList
 pub mod ExportRules
 pub mod ExportList
-pub mod Grammar
-pub mod ListGrammar
 pub mod ListedNames

@@ -7,10 +7,10 @@ use Rattle.link_script.specs.declared.rules.MatchRules.{MatchRules}
 use Rattle.link_script.specs.declared.rules.Version.{Version}
 use Rattle.link_script.specs.declared.rules.Class.{Class}
 use Rattle.link_script.specs.declared.rules.Class.TheVariants.{Exact, Nonstar, Star, Every}
-use Rattle.link_script.specs.declared.body.Side.{Side}
-use Rattle.link_script.specs.declared.body.Side.TheVariants.{Global, Local}
+use Rattle.link_syntax.specs.declared.body.Side.{Side}
+use Rattle.link_syntax.specs.declared.body.Side.TheVariants.{Global, Local}
 use Rattle.link_script.specs.Lookup.{Asked}
-use Rattle.link_script.specs.Names.{has_name}
+use Rattle.link_names.specs.Names.{has_name}
 
 abbrev pub has_glob : List (List GlobToken) → List ℕ → Bool
 has_glob [] text = false

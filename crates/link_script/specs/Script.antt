@@ -1,40 +1,23 @@
--- Whole scripts.
-use Rattle.std.specs.Prelude.{◌≡◌, ◌<◌, ℕ, ◌==◌, Bool, true, false, if◌then◌else◌, List, [], ◌∷◌, length, Option, None, Result, Ok, Err}
-use Rattle.link_script.specs.declared.fault.Fault.{Fault}
-use Rattle.link_script.specs.declared.fault.ScriptFault.{ScriptFault}
-use Rattle.link_script.specs.declared.fault.ScriptFault.TheVariants as faults
-use Rattle.link_script.specs.declared.fault.ScriptErrorKind.TheVariants.{Syntax}
-use Rattle.link_script.specs.declared.body.RawVersionBody.{RawVersionBody}
-use Rattle.link_script.specs.declared.named.RawVersion.{RawVersion}
+-- The script that a text spells, and what it says.
+use Rattle.std.specs.Prelude.{◌≡◌, ℕ, Bool, true, false, List, [], ◌∷◌, Option, None, Result, Ok, Err}
+use Rattle.link_syntax.specs.declared.fault.Fault.{Fault}
+use Rattle.link_syntax.specs.declared.fault.ScriptFault.{ScriptFault}
+use Rattle.link_syntax.specs.declared.fault.ScriptFault.TheVariants as faults
+use Rattle.link_syntax.specs.declared.body.RawVersionBody.{RawVersionBody}
+use Rattle.link_syntax.specs.declared.named.RawVersion.{RawVersion}
+use Rattle.link_syntax.specs.declared.script.RawScript.{RawScript}
+use Rattle.link_syntax.specs.declared.script.RawScript.TheVariants.{Anonymous, Named}
+use Rattle.link_syntax.specs.Fault.{Refuses}
+use Rattle.link_syntax.specs.Named.{raw_names}
 use Rattle.link_script.specs.declared.rust_form.RustVersionScript.{RustVersionScript}
-use Rattle.link_script.specs.declared.script.RawScript.{RawScript}
-use Rattle.link_script.specs.declared.script.RawScript.TheVariants.{Anonymous, Named}
 use Rattle.link_script.specs.declared.script.VersionScript.{VersionScript}
 use Rattle.link_script.specs.declared.script.VersionScript.TheVariants.{Regular, Rust}
-use Rattle.link_script.specs.Fault.{◌>>=◌, refuse, Refuses}
-use Rattle.link_script.specs.Words.{semicolon_word}
-use Rattle.link_script.specs.Skip.{skip, strips, begins_with}
-use Rattle.link_script.specs.Block.{or_else}
-use Rattle.link_script.specs.Body.{body_at}
-use Rattle.link_script.specs.Named.{versions_at}
 use Rattle.link_script.specs.Filter.{AreVersions}
 use Rattle.link_script.specs.Lookup.{Asked}
 use Rattle.link_script.specs.Rank.{filters_of, filters_in}
 use Rattle.link_script.specs.Regular.{unnamed, base, counted, parents}
 use Rattle.link_script.specs.RustForm.{is_rust_form, listed_names}
-use Rattle.link_script.specs.VersionOf.{Undeclared, version_names, raw_names, version_of, IsVersionOf}
-
--- nothing may follow
-abbrev pub to_end : {A : Type 0} → A → List ℕ → Result A Fault
-to_end x text = skip text >>= λ rest. if length rest == 0 then Ok x else refuse Syntax rest
-
-unfoldable pub anonymous : List ℕ → Result RawVersionBody Fault
-anonymous text = body_at text >>= λ b. or_else (strips semicolon_word b.1) (λ rest. to_end b.0 rest) (refuse Syntax b.1)
-
--- a brace first is the anonymous form
-unfoldable pub script_at : List ℕ → Result RawScript Fault
-script_at text = skip text >>= λ text.
-    if begins_with text 123 then (anonymous text >>= λ body. Ok (Anonymous body)) else (versions_at text >>= λ versions. Ok (Named versions))
+use Rattle.link_script.specs.VersionOf.{Undeclared, version_names, version_of, IsVersionOf}
 
 -- the versions that a text has, number 0 being the base
 abbrev pub versions_in : RawScript → List RawVersion
@@ -55,25 +38,16 @@ abbrev pub IsScriptOf : RawScript → VersionScript → Type 0
 IsScriptOf raw (Rust script) = IsRustOf raw script
 IsScriptOf raw (Regular versions) = (of_rust_form raw ≡ false) × AreVersions (versions_in raw) versions
 
--- no more versions than numbers below 32,768
-abbrev pub IsFew : RawScript → Type 0
-IsFew (Anonymous body) = Unit {0}
-IsFew (Named versions) = length versions < 32767
-
--- what was read, or its fault at its place, unless memory ran out
-abbrev pub ReadsScript : List ℕ → Result RawScript ScriptFault → Result RawScript Fault → Type 0
-ReadsScript text (Ok raw) read = read ≡ Ok raw
-ReadsScript text (Err e) read = Refuses e text read
-
+-- the script of what was read, or its fault at its place, unless memory ran out
 abbrev pub Parses : List ℕ → Result VersionScript ScriptFault → Result RawScript Fault → Type 0
 Parses text (Ok script) read = (raw : RawScript) × (read ≡ Ok raw) × IsScriptOf raw script
 Parses text (Err e) read = Refuses e text read
 
 -- the script of what was read, unless memory ran out
-abbrev pub ReadsAs : RawScript → Result VersionScript ScriptFault → Type 0
-ReadsAs raw (Ok script) = IsScriptOf raw script
-ReadsAs raw (Err faults.Memory) = Unit {0}
-ReadsAs raw (Err (faults.Text t)) = ⊥
+abbrev pub IsSpelledBy : RawScript → Result VersionScript ScriptFault → Type 0
+IsSpelledBy raw (Ok script) = IsScriptOf raw script
+IsSpelledBy raw (Err faults.Memory) = Unit {0}
+IsSpelledBy raw (Err (faults.Text t)) = ⊥
 
 abbrev pub is_rust : VersionScript → Bool
 is_rust (Regular versions) = false

@@ -1,9 +1,8 @@
 -- The version of a symbol.
 use Rattle.std.specs.Prelude.{◌≡◌, ℕ, zero, suc, ◌<◌, ◌==◌, Bool, true, false, if◌then◌else◌, List, [], ◌∷◌, map, length, slice_get, Option, Some, None, Result, Ok, Err}
 use Rattle.std.specs.Str.{bytes_eq}
-use Rattle.link_script.specs.declared.body.Side.{Side}
-use Rattle.link_script.specs.declared.body.Side.TheVariants.{Global, Local}
-use Rattle.link_script.specs.declared.named.RawVersion.{RawVersion}
+use Rattle.link_syntax.specs.declared.body.Side.{Side}
+use Rattle.link_syntax.specs.declared.body.Side.TheVariants.{Global, Local}
 use Rattle.link_script.specs.declared.rules.Version.{Version}
 use Rattle.link_script.specs.declared.symbol_version.UndefinedVersion.{UndefinedVersion}
 use Rattle.link_script.specs.Filter.{Filter}
@@ -23,9 +22,6 @@ answered (Err e) = Err (record { name = e.name.now; version = e.version.now })
 
 abbrev pub version_names : List Version → List (List ℕ)
 version_names versions = map (λ (v : Version). v.name) versions
-
-abbrev pub raw_names : List RawVersion → List (List ℕ)
-raw_names raws = map (λ (raw : RawVersion). raw.name) raws
 
 -- the version of a match: 1 more than its number, and none for number 0
 abbrev pub matched : Option (ℕ × Side) → Option ℕ

@@ -1,31 +1,22 @@
 //! Export lists: which symbols a shared object shows, and which ones must be there.
 
-ghost use Rattle.std.specs.Prelude.{◌≡◌, ◌↔◌, ◌≤◌, [], length, IsTrue, IfOk, IfErr, OnOk, OnErr};
+ghost use Rattle.std.specs.Prelude.{◌≡◌, ◌↔◌, [], IsTrue, IfOk, IfErr, OnOk, OnErr};
 ghost use Rattle.link_script.specs.ExportRules.{class_fits, some_fits};
-ghost use Rattle.link_script.specs.Fault.{Fails, IsWithin, Refuses};
-ghost use Rattle.link_script.specs.ForcedName.{added_entry};
-ghost use Rattle.link_script.specs.GnuList.{gnu_list};
-ghost use Rattle.link_script.specs.ListGrammar.{GnuListIsSpelled, ForcedNameIsSpelled};
+ghost use Rattle.link_syntax.specs.Fault.{Refuses};
+ghost use Rattle.link_syntax.specs.ForcedName.{added_entry};
+ghost use Rattle.link_syntax.specs.GnuList.{gnu_list};
 ghost use Rattle.link_script.specs.Lookup.{seen, asked};
-ghost use Rattle.link_script.specs.MachoList.{macho_list, exact_names};
+ghost use Rattle.link_syntax.specs.MachoList.{macho_list, exact_names};
 
-use crate::fault::{ReadError, ScriptFault, placed};
-use crate::forced_name::added_entry;
-use crate::gnu_list::gnu_list;
 use crate::lookup::{Demangler, Lookup, look_up};
-use crate::macho_list::macho_list;
-use crate::matcher::{ParsedSymbolMatcher, SymbolMatcher};
 use crate::rank::{cxx_fits, plain_fits};
 use crate::rules::{Class, MatchRules};
-use link_ids::{Name, Seq};
+use link_names::{Name, Seq};
+use link_syntax::{
+    ParsedSymbolMatcher, ScriptFault, SymbolMatcher, read_added_entry, read_gnu_list,
+    read_macho_list,
+};
 use std::alloc::{AllocError, Global};
-
-/// What is read as a GNU export list, or as a name that an option adds, is spelled so, and what is spelled so is read. The
-/// function does nothing: it stands for the laws that its contract states.
-pub fn export_list_law()
-    ensures lists { GnuListIsSpelled }
-    ensures names { ForcedNameIsSpelled }
-{}
 
 /// The names that are listed as they stand, in order.
 fn exact_names(alloc: Global, matchers: &[SymbolMatcher]) -> Result<Seq<Name>, AllocError>
@@ -84,21 +75,6 @@ impl ExportList {
         }
     }
 
-    fn read_gnu(alloc: Global, text: &[u8]) -> Result<ExportList, ReadError>
-        ensures read { IfOk result (λ list. IsGnuList text.now list) }
-        ensures refused { IfErr result (λ e. Fails e (gnu_list text.now)) }
-        ensures inside { IfErr result (λ e. IsWithin e (length text.now)) }
-    {
-        let entries = gnu_list(alloc, text)?;
-        let rules = MatchRules::from_entries(alloc, entries)?;
-        let required = Seq::new(alloc);
-        Ok(ExportList {
-            alloc,
-            rules,
-            required,
-        })
-    }
-
     /// The list that the text of GNU ld's `--dynamic-list` spells. It requires no names.
     ///
     /// A text that is no such list is refused with its first fault and that fault's place.
@@ -106,21 +82,9 @@ impl ExportList {
         ensures read { IfOk result (λ list. IsGnuList text.now list) }
         ensures refused { IfErr result (λ e. Refuses e text.now (gnu_list text.now)) }
     {
-        match ExportList::read_gnu(alloc, text) {
-            Ok(list) => Ok(list),
-            Err(error) => Err(placed(error, text.len())),
-        }
-    }
-
-    fn read_macho(alloc: Global, text: &[u8]) -> Result<ExportList, ReadError>
-        ensures read { IfOk result (λ list. IsMachoList text.now list) }
-        ensures refused { IfErr result (λ e. Fails e (macho_list text.now)) }
-        ensures inside { IfErr result (λ e. IsWithin e (length text.now)) }
-    {
-        let matchers = macho_list(alloc, text)?;
-        let required = exact_names(alloc, matchers.as_slice())?;
-        let mut rules = MatchRules::new(alloc);
-        rules.push(ParsedSymbolMatcher::Multiple(matchers))?;
+        let entries = read_gnu_list(alloc, text)?;
+        let rules = MatchRules::from_entries(alloc, entries)?;
+        let required = Seq::new(alloc);
         Ok(ExportList {
             alloc,
             rules,
@@ -136,10 +100,15 @@ impl ExportList {
         ensures read { IfOk result (λ list. IsMachoList text.now list) }
         ensures refused { IfErr result (λ e. Refuses e text.now (macho_list text.now)) }
     {
-        match ExportList::read_macho(alloc, text) {
-            Ok(list) => Ok(list),
-            Err(error) => Err(placed(error, text.len())),
-        }
+        let matchers = read_macho_list(alloc, text)?;
+        let required = exact_names(alloc, matchers.as_slice())?;
+        let mut rules = MatchRules::new(alloc);
+        rules.push(ParsedSymbolMatcher::Multiple(matchers))?;
+        Ok(ExportList {
+            alloc,
+            rules,
+            required,
+        })
     }
 
     /// Whether the list has the name: as it stands, by a glob, or by a bare star, plain or, demangled, of C++.
@@ -157,13 +126,9 @@ impl ExportList {
         ensures refused { IfErr result (λ e. Refuses e text.now (added_entry without_semicolon text.now)) }
         ensures unchanged { OnErr result (SameList self.old self.new) }
     {
-        match added_entry(self.alloc, text, without_semicolon) {
-            Err(error) => Err(placed(error, text.len())),
-            Ok(entry) => match self.rules.push(entry) {
-                Ok(()) => Ok(()),
-                Err(_) => Err(ScriptFault::Memory),
-            },
-        }
+        let entry = read_added_entry(self.alloc, text, without_semicolon)?;
+        self.rules.push(entry)?;
+        Ok(())
     }
 
     /// The names that must be defined, in the list's order.

@@ -1,7 +1,7 @@
 //! Which version a name belongs to.
 
 ghost use Rattle.std.specs.Prelude.{◌≡◌, ◌<◌, List, length, zero, IfSome};
-ghost use Rattle.link_script.specs.declared.named.RawVersion.{RawVersion};
+ghost use Rattle.link_syntax.specs.declared.named.RawVersion.{RawVersion};
 ghost use Rattle.link_script.specs.declared.rules.Class.TheVariants.{Exact};
 ghost use Rattle.link_script.specs.Filter.{AreVersions};
 ghost use Rattle.link_script.specs.Lookup.{seen, asked};
@@ -9,10 +9,10 @@ ghost use Rattle.link_script.specs.Rank.{IsBest, filters_of, filters_in};
 ghost use Rattle.link_script.specs.Rules.{plain_fits, cxx_fits, side_in, first_in, last_in, best_match};
 ghost use Rattle.link_script.specs.VersionIndex.{IsIndexOf, numbers_with};
 
-use crate::body::Side;
 use crate::lookup::{Demangler, Lookup, look_up};
 use crate::rules::{Class, MatchRules, Version};
 use crate::version_index::VersionIndex;
+use link_syntax::Side;
 
 pub fn plain_fits(rules: &MatchRules, class: Class, name: &Lookup) -> bool
     ensures { result ≡ plain_fits rules.now class (seen name.now) }

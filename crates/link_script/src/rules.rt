@@ -1,24 +1,21 @@
 //! The patterns of a version, by language and kind, and which names they fit.
 
 ghost use Rattle.std.specs.Prelude.{◌≡◌, ◌↔◌, ◌<◌, ◌≤◌, ◌+◌, [], ◌∷◌, ◌++◌, ◌||◌, ℕ, List, Bool, IsTrue, IsOk, IfOk, OnOk, OnErr};
-ghost use Rattle.link_script.specs.declared.matcher.SymbolMatcher.{SymbolMatcher};
+ghost use Rattle.link_syntax.specs.declared.matcher.SymbolMatcher.{SymbolMatcher};
 ghost use Rattle.link_script.specs.Room.{is_of, count_of, HasRoom};
 ghost use Rattle.link_script.specs.Lookup.{seen, asked, name_of, text_of};
 ghost use Rattle.link_script.specs.Rank.{HasFit, glob_class};
 ghost use Rattle.std.specs.Str.{chars};
 ghost use Rattle.std.specs.Option.{option_map};
-ghost use Rattle.link_script.specs.declared.body.Side.{Side};
+ghost use Rattle.link_syntax.specs.declared.body.Side.{Side};
 ghost use Rattle.link_script.specs.Filter.{Filter, every, HasFilter, SameRules, SameFilters, Adds, AddsAll, AddsEntry, HasEntries, HasBody, IsVersion, of_language};
 ghost use Rattle.link_script.specs.Regular.{base};
 ghost use Rattle.link_script.specs.Rules.{has_glob, exact_fits, glob_fits, rules_fit, rules_have, version_has};
 
-use crate::body::RawVersionBody;
 use crate::lookup::{Demangler, Lookup, look_up, name_of, text_of};
-use crate::matcher::{ParsedSymbolMatcher, SymbolMatcher};
-use crate::name_set::NameSet;
-use crate::named::RawVersion;
 use link_glob::Pattern;
-use link_ids::{Name, Seq};
+use link_names::{Name, NameSet, Seq};
+use link_syntax::{ParsedSymbolMatcher, RawVersion, RawVersionBody, SymbolMatcher};
 use std::alloc::{AllocError, Global};
 
 /// The kinds of patterns, the strongest first.

@@ -5,9 +5,8 @@ ghost use Rattle.std.specs.List.{list_any, list_all};
 ghost use Rattle.link_script.specs.RustForm.{is_rust_form, is_bare_star, is_exact_name, plain_name, exact_name, listed_names, IsRustScript};
 ghost use Rattle.link_script.specs.declared.rust_form.RustFormError.TheVariants.{Memory};
 
-use crate::body::RawVersionBody;
-use crate::matcher::{ParsedSymbolMatcher, SymbolMatcher};
-use link_ids::{Name, Seq};
+use link_names::{Name, Seq};
+use link_syntax::{ParsedSymbolMatcher, RawVersionBody, SymbolMatcher};
 use std::alloc::{AllocError, Global};
 
 /// A script of the Rust form: the names that it lists. Every other name is local. Mirrors Wild's `RustVersionScript`.

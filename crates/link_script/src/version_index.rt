@@ -4,14 +4,13 @@ ghost use Rattle.std.specs.Prelude.{◌≡◌, ◌∷◌, [], ◌++◌, ◌||◌
 ghost use Rattle.std.specs.Option.{option_and_then, option_map, option_or};
 ghost use Rattle.link_script.specs.declared.rules.Version.{Version};
 ghost use Rattle.link_script.specs.Lookup.{seen};
-ghost use Rattle.link_script.specs.Names.{has_name, number_in};
+ghost use Rattle.link_names.specs.Names.{has_name, number_in};
 ghost use Rattle.link_script.specs.VersionOf.{last_named};
 ghost use Rattle.link_script.specs.VersionIndex.{IsIndexOf, earlier, first_exact};
 
 use crate::lookup::{Lookup, name_of};
-use crate::name_map::NameMap;
 use crate::rules::{BasicMatchRules, Class, Version, VersionBody};
-use link_ids::Seq;
+use link_names::{NameMap, Seq};
 use std::alloc::{AllocError, Global};
 
 /// The numbers of the versions of a script by what is looked up, so that no look-up goes over all versions.

@@ -4,8 +4,8 @@ use Rattle.std.proofs.Common.{refl}
 use Rattle.std.specs.Str.{is_utf8, chars}
 use Rattle.std.specs.Fmt.{digits}
 use lib.Utf8.{encode}
-use Rattle.link_ids.specs.FlagTable.{flag_table}
-use Rattle.link_ids.specs.FlagText.{flags_text}
+use Rattle.link_flags.specs.FlagTable.{flag_table}
+use Rattle.link_flags.specs.FlagText.{flags_text}
 use Rattle.link_worlds.specs.Computing.{IsAnswered, AreAnswered}
 use Rattle.link_worlds.proofs.Computed.{answered, also}
 use Rattle.link_worlds.specs.Rows as its

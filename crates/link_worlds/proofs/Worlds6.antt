@@ -4,22 +4,22 @@ use Rattle.std.proofs.Common.{refl}
 use Rattle.std.specs.Str.{is_utf8, chars}
 use Rattle.std.specs.Fmt.{digits}
 use lib.Utf8.{encode}
-use Rattle.link_ids.specs.FlagTable.{flag_table}
-use Rattle.link_ids.specs.FlagText.{flags_text}
+use Rattle.link_flags.specs.FlagTable.{flag_table}
+use Rattle.link_flags.specs.FlagText.{flags_text}
 use Rattle.link_glob.specs.Reading.{tokens_of}
 use Rattle.link_glob.specs.Glob.{does_match}
 use Rattle.link_glob.specs.Compile.{glob_of}
-use Rattle.link_script.specs.MachoList.{macho_matcher, line_matcher, macho_list}
-use Rattle.link_script.specs.Named.{parent_at, named_at, versions_at}
-use Rattle.link_script.specs.Body.{body_turn, pieces_at, body_at}
-use Rattle.link_script.specs.ForcedName.{forced_token, forced_name}
-use Rattle.link_script.specs.GnuList.{list_turn, gnu_entries, gnu_list}
-use Rattle.link_script.specs.Many.{grow}
-use Rattle.link_script.specs.Token.{trimmed, glob_at, matcher_of, token_at}
-use Rattle.link_script.specs.Script.{anonymous, script_at}
-use Rattle.link_script.specs.Block.{language_at, extern_text, inner_extern, block_turn, block_at}
-use Rattle.link_script.specs.Skip.{skip}
-use Rattle.link_script.specs.Entry.{extern_at, entry_at}
+use Rattle.link_syntax.specs.MachoList.{macho_matcher, line_matcher, macho_list}
+use Rattle.link_syntax.specs.Named.{parent_at, named_at, versions_at}
+use Rattle.link_syntax.specs.Body.{body_turn, pieces_at, body_at}
+use Rattle.link_syntax.specs.ForcedName.{forced_token, forced_name}
+use Rattle.link_syntax.specs.GnuList.{list_turn, gnu_entries, gnu_list}
+use Rattle.link_syntax.specs.Many.{grow}
+use Rattle.link_syntax.specs.Token.{trimmed, glob_at, matcher_of, token_at}
+use Rattle.link_syntax.specs.Script.{anonymous, script_at}
+use Rattle.link_syntax.specs.Block.{language_at, extern_text, inner_extern, block_turn, block_at}
+use Rattle.link_syntax.specs.Skip.{skip}
+use Rattle.link_syntax.specs.Entry.{extern_at, entry_at}
 use Rattle.link_worlds.specs.Computing.{IsAnswered}
 use Rattle.link_worlds.proofs.Computed.{answered}
 use Rattle.link_worlds.specs.Worlds6 as its

@@ -1,7 +1,7 @@
 -- Worked examples: small worlds of objects alone, and what a link of each answers.
 -- Written by `tools/worlds.py` from `tools/rows.jsonl`.
 use Rattle.std.specs.Prelude.{List, [], ◌∷◌, true, false, Some, None, codes, ◌++◌}
-use Rattle.link_ids.specs.declared.visibility.Visibility.TheVariants.{Default, Protected, Hidden}
+use Rattle.link_flags.specs.declared.visibility.Visibility.TheVariants.{Default, Protected, Hidden}
 use Rattle.link_input.specs.declared.symbol_entry.Place.TheVariants.{Undefined, Absolute, Common, Section}
 use Rattle.link_input.specs.declared.symbol_entry.SymbolBinding.TheVariants.{Local, Global, Weak}
 use Rattle.link_input.specs.declared.symbol_entry.SymbolKind.TheVariants.{Plain}

@@ -1,7 +1,7 @@
 -- Generated worlds, and what an independent program answers to each.
 -- Written by `tools/worlds.py` from `tools/worlds.jsonl`.
 use Rattle.std.specs.Prelude.{[], ◌∷◌, true, false, Some, None, codes, ◌++◌}
-use Rattle.link_ids.specs.declared.visibility.Visibility.TheVariants.{Default, Protected, Hidden}
+use Rattle.link_flags.specs.declared.visibility.Visibility.TheVariants.{Default, Protected, Hidden}
 use Rattle.link_input.specs.declared.symbol_entry.Place.TheVariants.{Undefined, Absolute, Common, Section}
 use Rattle.link_input.specs.declared.symbol_entry.SymbolBinding.TheVariants.{Local, Global, Weak, Unique}
 use Rattle.link_input.specs.declared.symbol_entry.SymbolKind.TheVariants.{Plain, Func, Ifunc, Tls}

@@ -5,7 +5,7 @@ use Rattle.link_closure.specs.Closure.{is_marked}
 use Rattle.link_input.specs.ObjectFile.{ObjectFile}
 use Rattle.link_rules.specs.declared.symbol.Symbol.{Symbol}
 use Rattle.link_rules.specs.declared.linked.LoadedObject.{LoadedObject}
-use Rattle.link_ids.specs.declared.value_flags.ValueFlags.{ValueFlags}
+use Rattle.link_flags.specs.declared.value_flags.ValueFlags.{ValueFlags}
 use Rattle.link_input.specs.declared.too_many.TooManyKind.{TooManyKind}
 use Rattle.link_rules.specs.declared.linked.UndefinedName.{UndefinedName}
 use Rattle.link_rules.specs.declared.linked.Linked.{Linked}

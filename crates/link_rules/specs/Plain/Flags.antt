@@ -5,7 +5,7 @@ use Rattle.std.specs.List.{list_any}
 use Rattle.link_input.specs.declared.symbol_entry.Place.{Place}
 use Rattle.link_input.specs.declared.symbol_entry.Place.TheVariants.{Undefined as Nowhere, Absolute, Common as InCommon, Section}
 use Rattle.link_rules.specs.declared.symbol.Symbol.{Symbol}
-use Rattle.link_ids.specs.FlagBits as flag
+use Rattle.link_flags.specs.FlagBits as flag
 use Rattle.link_rules.specs.Places.{is_number}
 use Rattle.link_rules.specs.Flags.{flags_if}
 use Rattle.link_input.specs.Entries.{is_local}

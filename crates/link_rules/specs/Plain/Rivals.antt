@@ -2,7 +2,7 @@
 use Rattle.std.specs.Prelude.{ℕ, ◌&&◌, List, [], ◌∷◌, ◌++◌, Bool, Option, Some, None, if◌then◌else◌, option_map, option_and_then, codes}
 use Rattle.std.specs.Option.{option_map_or, option_or}
 use Rattle.std.specs.List.{slice_get}
-use Rattle.link_ids.specs.NameText.{name_text}
+use Rattle.link_names.specs.NameText.{name_text}
 use Rattle.link_input.specs.ObjectFile.{ObjectFile}
 use Rattle.link_rules.specs.declared.symbol.Symbol.{Symbol}
 use Rattle.link_rules.specs.Places.{Bytes, places_from, first_of, is_number, some_from}

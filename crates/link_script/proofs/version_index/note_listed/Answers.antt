@@ -1,7 +1,7 @@
 use Rattle.std.proofs.Common.{ℕ, Option, Some, None, if◌then◌else◌, ap, ◌∙◌}
 use Rattle.std.specs.Option.{option_or}
-use Rattle.link_script.specs.Names.{has_name, number_in}
-use Rattle.link_script.proofs.Numbers.{or_more}
+use Rattle.link_names.specs.Names.{has_name, number_in}
+use Rattle.link_names.proofs.Numbers.{or_more}
 use Rattle.link_script.proofs.version_index.note_listed.Goals as goal
 
 pub returns : goal.returns

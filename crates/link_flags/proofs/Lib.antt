@@ -1,0 +1,2 @@
+pub mod FlagWords
+pub mod Picking

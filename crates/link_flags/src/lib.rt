@@ -1,0 +1,17 @@
+//! What a link knows of a symbol beside its name and id: the flags of its value, its visibility, its strength, and which
+//! of several definitions the strength picks.
+#![tactic(auto)]
+
+mod per_symbol_flags;
+mod selector;
+mod strength;
+#[cfg(test)]
+mod tests;
+mod value_flags;
+mod visibility;
+
+pub use per_symbol_flags::{FlagsForSymbol, PerSymbolFlags};
+pub use selector::SymbolPrioritySelector;
+pub use strength::SymbolStrength;
+pub use value_flags::{RawFlags, ValueFlags};
+pub use visibility::Visibility;

@@ -1,4 +1,0 @@
-pub mod FlagWords
-pub mod Text
-pub mod Passing
-pub mod Picking

@@ -1,0 +1,4 @@
+pub mod Text
+pub mod Passing
+pub mod NamesLemmas
+pub mod Numbers

@@ -1,9 +1,0 @@
-use Rattle.std.proofs.Common.{drop}
-use Rattle.link_script.proofs.Answered.{entry_reads, entry_is}
-use Rattle.link_script.proofs.entry.parse_matcher.Goals as goal
-
-pub returns-clause-found : goal.returns-clause-found
-returns-clause-found c = entry_reads c.args.text.now (drop c.args.at c.args.text.now) c.entry_from.result c.entry_from.ensures
-
-pub returns-clause-only : goal.returns-clause-only
-returns-clause-only c = λ entry rest x. entry_is c.args.text.now (drop c.args.at c.args.text.now) entry rest c.entry_from.result x c.entry_from.ensures

@@ -1,7 +1,0 @@
-use Rattle.std.proofs.Common.{sym, ap, ◌∙◌, ℕ, List}
-use Rattle.link_script.specs.Names.{number_in}
-use Rattle.link_script.proofs.Numbers.{number_of}
-use Rattle.link_script.proofs.name_map.NameMap.get.Goals as goal
-
-pub returns : goal.returns
-returns c = c.copied.ensures ∙ c.get.ensures.value ∙ sym (number_of c.self.inside.numbers.entries c.args.name.now) ∙ ap (λ (s : List (List ℕ × ℕ)). number_in s c.args.name.now) c.self.view_is

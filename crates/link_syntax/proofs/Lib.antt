@@ -1,0 +1,15 @@
+pub mod Repeat
+pub mod Sections
+pub mod Growing
+pub mod Skipping
+pub mod Spelled
+pub mod FirstClose
+pub mod LineByLine
+pub mod Places
+pub mod Repeated
+pub mod BlockLaws
+pub mod BodyLaws
+pub mod ScriptLaws
+pub mod ListLaws
+pub mod Answered
+pub mod VersionNumbers

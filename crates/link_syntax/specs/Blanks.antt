@@ -1,0 +1,37 @@
+-- What may stand between the parts of a script: blanks and comments, as pieces of the text.
+use Rattle.std.specs.Prelude.{◌≡◌, ◌≢◌, ℕ, true, false, List, [], ◌∷◌, ◌++◌}
+use Rattle.link_syntax.specs.Skip.{is_blank}
+
+pub data Piece : Type 0 where
+  blank : (byte : ℕ) → Piece
+  line : (bytes : List ℕ) → Piece
+  block : (bytes : List ℕ) → Piece
+
+-- no LF
+abbrev pub IsLine : List ℕ → Type 0
+IsLine [] = Unit {0}
+IsLine (c ∷ rest) = (c ≢ 10) × IsLine rest
+
+-- a line ends at an LF or at the end of the text
+abbrev pub EndsLine : List ℕ → Type 0
+EndsLine [] = Unit {0}
+EndsLine (c ∷ rest) = c ≡ 10
+
+-- no `*/`, not even with a `/` behind the last byte
+abbrev pub IsOpen : List ℕ → Type 0
+IsOpen [] = Unit {0}
+IsOpen (c ∷ []) = Unit {0}
+IsOpen (c ∷ d ∷ rest) = ((c ≡ 42) × (d ≡ 47) → ⊥) × IsOpen (d ∷ rest)
+
+-- no blank and no comment begins here
+abbrev pub Stops : List ℕ → Type 0
+Stops [] = Unit {0}
+Stops (c ∷ []) = (is_blank c ≡ false) × (c ≢ 35)
+Stops (c ∷ d ∷ rest) = (is_blank c ≡ false) × (c ≢ 35) × ((c ≡ 47) × (d ≡ 42) → ⊥)
+
+-- the text is these pieces and then the rest
+abbrev pub Skips : List Piece → List ℕ → List ℕ → Type 0
+Skips [] text rest = (text ≡ rest) × Stops rest
+Skips (blank c ∷ pieces) text rest = (after : List ℕ) × (text ≡ c ∷ after) × (is_blank c ≡ true) × Skips pieces after rest
+Skips (line bytes ∷ pieces) text rest = (after : List ℕ) × (text ≡ 35 ∷ (bytes ++ after)) × IsLine bytes × EndsLine after × Skips pieces after rest
+Skips (block bytes ∷ pieces) text rest = (after : List ℕ) × (text ≡ 47 ∷ 42 ∷ (bytes ++ (42 ∷ 47 ∷ after))) × IsOpen (bytes ++ 42 ∷ []) × Skips pieces after rest

@@ -1,0 +1,17 @@
+pub mod Words
+pub mod Fault
+pub mod Skip
+pub mod Blanks
+pub mod Token
+pub mod Many
+pub mod Block
+pub mod Entry
+pub mod Body
+pub mod Named
+pub mod Script
+pub mod ErrorText
+pub mod GnuList
+pub mod ForcedName
+pub mod MachoList
+pub mod Grammar
+pub mod ListGrammar
