@@ -1,5 +1,5 @@
 // A word of flags for each symbol.
-ghost use Rattle.std.specs.Prelude.{◌≡◌, ◌==◌, ◌++◌, [], ◌∷◌, ◌+◌, ◌<◌, ◌≤◌, List, OnOk, OnErr, length, slice_range};
+ghost use Rattle.std.specs.Prelude.{◌≡◌, ◌==◌, ◌++◌, [], ◌∷◌, ◌+◌, ◌<◌, ◌≤◌, List, IsOk, OnOk, OnErr, length, slice_range};
 
 use crate::value_flags::{RawFlags, ValueFlags};
 use bitflags::Flags;
@@ -25,10 +25,11 @@ impl PerSymbolFlags {
         }
     }
 
-    /// Adds the word of the next symbol.
+    /// Adds the word of the next symbol. Fails only where there is no room and no memory for more.
     pub fn push(&mut self, flags: ValueFlags) -> Result<(), AllocError>
         ensures ok { OnOk result (words_of self.new ≡ words_of self.old ++ record { 0 = flags.0 } ∷ []) }
         ensures err { OnErr result (words_of self.new ≡ words_of self.old) }
+        ensures succeeds { length (words_of self.old) < room_of self.old → IsOk result }
     {
         self.words.push(flags.raw())?;
         Ok(())
