@@ -1,4 +1,3 @@
 pub mod Text
 pub mod Passing
-pub mod NamesLemmas
-pub mod Numbers
+pub mod Noted

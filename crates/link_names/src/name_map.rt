@@ -1,76 +1,98 @@
-//! A number for each of some names.
+//! Maps from names.
 
-ghost use Rattle.std.specs.Prelude.{◌≡◌, [], ℕ, List, Some, None, OnOk, if◌then◌else◌};
+ghost use Rattle.std.specs.Prelude.{◌≡◌, ◌==◌, [], ℕ, length, List, Some, None, IsTrue, is_some, IsOk, OnOk, OnErr, if◌then◌else◌};
 ghost use Rattle.std.specs.Option.{option_or};
 ghost use Rattle.std.specs.Str.{bytes_eq};
-ghost use Rattle.link_names.specs.Names.{has_name, number_in};
+ghost use Rattle.link_names.specs.Names.{AreNoted, is_member, noted_in, value_in};
 
+use crate::name::Name;
 use crate::name_set::NameSet;
 use std::alloc::{AllocError, Global};
-use std::collections::HashMap;
+use std::collections::BTreeMap;
+use std::collections::btree_map::Iter;
 use std::marker::Model;
 
-/// Names and a number for each. A contract sees their pairs, and asks by `number_in` which number a name has.
+/// Names, and what is noted of each. A contract sees the pairs, and asks by `value_in` what is noted of a name. The names
+/// are kept in order, so that no choice of names makes a look-up slow.
 #[derive(Drop)]
-pub struct NameMap {
-    numbers: HashMap<Vec<u8>, u16>,
+pub struct NameMap<V> {
+    notes: BTreeMap<Vec<u8>, V>,
 }
 
-impl Model for NameMap {
-    ghost use Rattle.std.specs.Prelude.{ℕ, List};
-    ghost use Rattle.link_names.specs.Names.{pairs};
+impl<V> Model for NameMap<V> {
+    ghost use Rattle.link_names.specs.Names.{Noted, noted_in};
 
-    ghost Value = { List (List ℕ × ℕ) };
+    ghost Value = { Noted V };
 
-    ghost view = { λ m. pairs m.numbers.entries };
+    ghost view = { λ m. noted_in m.notes.entries };
 }
 
-impl NameMap {
+impl<V: Copy + Drop> NameMap<V> {
     /// No names. Takes no memory.
-    pub fn new(alloc: Global) -> NameMap
+    pub fn new(alloc: Global) -> NameMap<V>
         ensures { result ≡ [] }
     {
         NameMap {
-            numbers: HashMap::new(alloc),
+            notes: BTreeMap::new(alloc),
         }
     }
 
-    /// The number of the name.
-    pub fn get(&self, name: &[u8]) -> Option<u16>
-        ensures { result ≡ number_in self.now name.now }
+    /// What is noted of the name.
+    pub fn get(&self, name: &[u8]) -> Option<V>
+        ensures { result ≡ value_in self.now name.now }
     {
-        self.numbers.get(name).copied()
+        self.notes.get(name).copied()
     }
 
-    /// Gives the name the number, where it has none.
-    pub fn note_first(&mut self, alloc: Global, name: &[u8], number: u16) -> Result<(), AllocError>
-        ensures { OnOk result ((asked : List ℕ) → number_in self.new asked ≡ option_or (number_in self.old asked) (if bytes_eq asked name.now then Some number else None)) }
+    /// Notes the value of the name, in place of the one that was noted. Of a known name it takes no memory.
+    pub fn note(&mut self, name: Name, value: V) -> Result<(), AllocError>
+        ensures ok { OnOk result ((asked : List ℕ) → value_in self.new asked ≡ (if bytes_eq asked name then Some value else value_in self.old asked)) }
+        ensures err { OnErr result (self.new ≡ self.old) }
+        ensures succeeds { IsTrue (is_some (value_in self.old name)) → IsOk result }
     {
-        if !self.numbers.contains_key(name) {
-            self.numbers.insert(Vec::from_slice(alloc, name)?, number)?;
+        self.notes.insert(name.into_vec(), value)?;
+        Ok(())
+    }
+
+    /// Notes the value of the name, where none was noted.
+    pub fn note_first(&mut self, name: Name, value: V) -> Result<(), AllocError>
+        ensures ok { OnOk result ((asked : List ℕ) → value_in self.new asked ≡ option_or (value_in self.old asked) (if bytes_eq asked name then Some value else None)) }
+        ensures err { OnErr result (self.new ≡ self.old) }
+    {
+        if self.notes.contains_key(name.as_slice()) {
+            return Ok(());
         }
-        Ok(())
+        self.note(name, value)
     }
 
-    /// Gives the name the number, in place of the one that it has.
-    pub fn note_last(&mut self, alloc: Global, name: &[u8], number: u16) -> Result<(), AllocError>
-        ensures { OnOk result ((asked : List ℕ) → number_in self.new asked ≡ (if bytes_eq asked name.now then Some number else number_in self.old asked)) }
+    /// Whether nothing is noted.
+    pub fn is_empty(&self) -> bool
+        ensures { result ≡ (length self.now == 0) }
     {
-        self.numbers.insert(Vec::from_slice(alloc, name)?, number)?;
-        Ok(())
+        self.notes.len() == 0
     }
 
-    /// Gives the number to each of these names that has none.
+    /// The names in order, with what is noted of each.
+    pub(crate) fn iter(&self) -> Iter<'_, Vec<u8>, V>
+        ensures all { noted_in result ≡ self.now }
+        ensures noted { AreNoted self.now self.now }
+    {
+        self.notes.iter()
+    }
+
+    /// Notes the value of each name of the set of which none was noted.
     pub fn note_all(
         &mut self,
         alloc: Global,
         names: &NameSet,
-        number: u16,
+        value: V,
     ) -> Result<(), AllocError>
-        ensures { OnOk result ((asked : List ℕ) → number_in self.new asked ≡ option_or (number_in self.old asked) (if has_name names.now.all asked then Some number else None)) }
+        ensures { OnOk result ((asked : List ℕ) → value_in self.new asked ≡ option_or (value_in self.old asked) (if is_member names.now asked then Some value else None)) }
     {
-        for name in names.iter() {
-            self.note_first(alloc, name.as_slice(), number)?;
+        for (name, is_member) in names.iter() {
+            if *is_member {
+                self.note_first(Name::from_slice(alloc, name.as_slice())?, value)?;
+            }
         }
         Ok(())
     }

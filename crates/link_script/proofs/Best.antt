@@ -46,7 +46,7 @@ glob_is (g ∷ globs) text (suc k) p at m = or_right (does_match g text) (has_gl
 
 -- ---- the tests of one language's matchers
 
-exact_found : (r : BasicMatchRules) (seen text : Option (List ℕ)) → exact_fits r.exact.all seen ≡ true → (f : Filter) × (class_of f ≡ Exact) × HasFilter r f × Fits seen text f
+exact_found : (r : BasicMatchRules) (seen text : Option (List ℕ)) → exact_fits r.exact seen ≡ true → (f : Filter) × (class_of f ≡ Exact) × HasFilter r f × Fits seen text f
 exact_found r None text e = absurd cc
 exact_found r (Some n) text e = (name n, refl, e, refl)
 

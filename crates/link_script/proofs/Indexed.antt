@@ -81,7 +81,7 @@ no_glob None = refl
 no_glob (Some t) = refl
 
 rules_without : (class : Class) (rules : BasicMatchRules) (name text : Option (List ℕ)) → rules_have class rules ≡ false → rules_fit rules class name text ≡ false
-rules_without Exact rules name text e = let none = empty_from rules.exact.all e in rw none (no_name name)
+rules_without Exact rules name text e = let none = empty_from rules.exact e in rw none (no_name name)
 rules_without Nonstar rules name text e = let none = empty_from rules.nonstar_globs.items e in rw none (no_glob text)
 rules_without Star rules name text e = let none = empty_from rules.star_globs.items e in rw none (no_glob text)
 rules_without Every rules name text e = e

@@ -1,6 +1,7 @@
 pub mod Asked
 pub mod VersionIndex
 pub mod Indexed
+pub mod Roomy
 pub mod Pushing
 pub mod Best
 pub mod Listed

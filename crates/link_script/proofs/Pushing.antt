@@ -10,7 +10,7 @@ use Rattle.link_script.specs.declared.rules.MatchRules.{MatchRules}
 use Rattle.link_syntax.specs.declared.matcher.SymbolMatcher.{SymbolMatcher}
 use Rattle.link_syntax.specs.declared.matcher.ParsedSymbolMatcher.{ParsedSymbolMatcher}
 use Rattle.link_syntax.specs.declared.matcher.ParsedSymbolMatcher.TheVariants.{Single, Multiple, CxxMatchers}
-use Rattle.link_names.specs.Names.{has_name, AddsName}
+use Rattle.link_names.specs.Names.{Names, is_member, AddsName}
 use Rattle.link_script.specs.Filter.{Filter, name, nonstar, star, every, HasGlob, HasFilter, filter_of, AreFilters, SameRules, SameFilters, Adds, AddsAll, of_language, EntryHas, EntriesHave, AddsEntry, HasEntries}
 
 slice_pushed : {A : Type 0} (xs : List A) (x y : A) (k : ℕ) → slice_get (xs ++ x ∷ []) k ≡ Some y → (slice_get xs k ≡ Some y) ⊎ (x ≡ y)
@@ -66,23 +66,23 @@ glob_pushed old new q p e = (
   ],
 )
 
-pub adds_name : (old new : BasicMatchRules) (n : List ℕ) → AddsName n old.exact.all new.exact.all → new.nonstar_globs.items ≡ old.nonstar_globs.items → new.star_globs.items ≡ old.star_globs.items → new.matches_all ≡ old.matches_all → (f : Filter) → AddsAt (name n) old new f
+pub adds_name : (old new : BasicMatchRules) (n : List ℕ) → AddsName n old.exact new.exact → new.nonstar_globs.items ≡ old.nonstar_globs.items → new.star_globs.items ≡ old.star_globs.items → new.matches_all ≡ old.matches_all → (f : Filter) → AddsAt (name n) old new f
 adds_name old new n adds ns s a (name b) = (
-  λ h. elim (or_parts (bytes_eq b n) (has_name old.exact.all b) (sym (adds b) ∙ h)) as (λ _. HasFilter old (name b) ⊎ (name b ≡ name n)) [
+  λ h. elim (or_parts (bytes_eq b n) (is_member old.exact b) (sym (adds b) ∙ h)) as (λ _. HasFilter old (name b) ⊎ (name b ≡ name n)) [
     | inl same ↦ inr (ap name ((bytes_eq-Decides b n).0 same))
     | inr there ↦ inl there
   ],
   λ o. elim o as (λ _. HasFilter new (name b)) [
-    | inl h ↦ adds b ∙ or_right (bytes_eq b n) (has_name old.exact.all b) h
-    | inr is ↦ adds b ∙ or_left (bytes_eq b n) (has_name old.exact.all b) ((bytes_eq-Decides b n).1 (name_same b n is))
+    | inl h ↦ adds b ∙ or_right (bytes_eq b n) (is_member old.exact b) h
+    | inr is ↦ adds b ∙ or_left (bytes_eq b n) (is_member old.exact b) ((bytes_eq-Decides b n).1 (name_same b n is))
   ],
 )
 adds_name old new n adds ns s a (nonstar p) = same_filter (λ (gs : List (List GlobToken)). HasGlob gs p) old.nonstar_globs.items new.nonstar_globs.items (nonstar p ≡ name n) ns (λ e. cc)
 adds_name old new n adds ns s a (star p) = same_filter (λ (gs : List (List GlobToken)). HasGlob gs p) old.star_globs.items new.star_globs.items (star p ≡ name n) s (λ e. cc)
 adds_name old new n adds ns s a every = same_filter (λ (b : Bool). b ≡ true) old.matches_all new.matches_all (every ≡ name n) a (λ e. cc)
 
-pub adds_nonstar : (old new : BasicMatchRules) (q : List GlobToken) → new.nonstar_globs.items ≡ old.nonstar_globs.items ++ q ∷ [] → new.exact.all ≡ old.exact.all → new.star_globs.items ≡ old.star_globs.items → new.matches_all ≡ old.matches_all → (f : Filter) → AddsAt (nonstar q) old new f
-adds_nonstar old new q e x s a (name b) = same_filter (λ (names : List (List ℕ)). has_name names b ≡ true) old.exact.all new.exact.all (name b ≡ nonstar q) x (λ e. cc)
+pub adds_nonstar : (old new : BasicMatchRules) (q : List GlobToken) → new.nonstar_globs.items ≡ old.nonstar_globs.items ++ q ∷ [] → new.exact ≡ old.exact → new.star_globs.items ≡ old.star_globs.items → new.matches_all ≡ old.matches_all → (f : Filter) → AddsAt (nonstar q) old new f
+adds_nonstar old new q e x s a (name b) = same_filter (λ (names : Names). is_member names b ≡ true) old.exact new.exact (name b ≡ nonstar q) x (λ e. cc)
 adds_nonstar old new q e x s a (nonstar p) =
     let k = glob_pushed old.nonstar_globs.items new.nonstar_globs.items q p e in (
       λ h. elim (k.0 h) as (λ _. HasFilter old (nonstar p) ⊎ (nonstar p ≡ nonstar q)) [ inl at ↦ inl at | inr is ↦ inr (ap nonstar is) ],
@@ -91,8 +91,8 @@ adds_nonstar old new q e x s a (nonstar p) =
 adds_nonstar old new q e x s a (star p) = same_filter (λ (gs : List (List GlobToken)). HasGlob gs p) old.star_globs.items new.star_globs.items (star p ≡ nonstar q) s (λ e. cc)
 adds_nonstar old new q e x s a every = same_filter (λ (b : Bool). b ≡ true) old.matches_all new.matches_all (every ≡ nonstar q) a (λ e. cc)
 
-pub adds_star : (old new : BasicMatchRules) (q : List GlobToken) → new.star_globs.items ≡ old.star_globs.items ++ q ∷ [] → new.exact.all ≡ old.exact.all → new.nonstar_globs.items ≡ old.nonstar_globs.items → new.matches_all ≡ old.matches_all → (f : Filter) → AddsAt (star q) old new f
-adds_star old new q e x n a (name b) = same_filter (λ (names : List (List ℕ)). has_name names b ≡ true) old.exact.all new.exact.all (name b ≡ star q) x (λ e. cc)
+pub adds_star : (old new : BasicMatchRules) (q : List GlobToken) → new.star_globs.items ≡ old.star_globs.items ++ q ∷ [] → new.exact ≡ old.exact → new.nonstar_globs.items ≡ old.nonstar_globs.items → new.matches_all ≡ old.matches_all → (f : Filter) → AddsAt (star q) old new f
+adds_star old new q e x n a (name b) = same_filter (λ (names : Names). is_member names b ≡ true) old.exact new.exact (name b ≡ star q) x (λ e. cc)
 adds_star old new q e x n a (nonstar p) = same_filter (λ (gs : List (List GlobToken)). HasGlob gs p) old.nonstar_globs.items new.nonstar_globs.items (nonstar p ≡ star q) n (λ e. cc)
 adds_star old new q e x n a (star p) =
     let k = glob_pushed old.star_globs.items new.star_globs.items q p e in (

@@ -16,7 +16,7 @@ use Rattle.link_syntax.specs.declared.body.Side.TheVariants.{Global, Local}
 use Rattle.link_script.specs.declared.version_index.VersionIndex.{VersionIndex}
 use Rattle.link_script.specs.Filter.{rules_of}
 use Rattle.link_script.specs.Lookup.{Asked, name_of}
-use Rattle.link_names.specs.Names.{number_in}
+use Rattle.link_names.specs.Names.{value_in}
 use Rattle.link_script.specs.Rules.{exact_fits, plain_fits, cxx_fits, version_has, side_in}
 use Rattle.link_script.specs.VersionOf.{is_named, last_named}
 use Rattle.link_script.specs.VersionIndex.{lists, first_listing, first_exact, earlier, has_at, numbers_with, IsIndexOf}
@@ -175,14 +175,14 @@ some_of_four false false false false = refl
 
 -- the version lists the name that it sees, if there is one
 abbrev fits_exactly : Bool → Option (List ℕ) → Version → Bool
-fits_exactly cxx name v = exact_fits (rules_of v Global cxx).exact.all name || exact_fits (rules_of v Local cxx).exact.all name
+fits_exactly cxx name v = exact_fits (rules_of v Global cxx).exact name || exact_fits (rules_of v Local cxx).exact name
 
 none_passes : {X : Type 0} (i : ℕ) (xs : List X) → None ≡ position_from (λ (x : X). false) i xs
 none_passes i [] = refl
 none_passes i (x ∷ xs) = none_passes (i + 1) xs
 
-number_first : (versions : List Version) (cxx : Bool) (numbers : List (List ℕ × ℕ)) (name : Option (List ℕ)) → ((asked : List ℕ) → number_in numbers asked ≡ first_listing versions cxx asked)
-    → option_and_then (number_in numbers) name ≡ position_from (fits_exactly cxx name) 0 versions
+number_first : (versions : List Version) (cxx : Bool) (numbers : List (List ℕ × ℕ)) (name : Option (List ℕ)) → ((asked : List ℕ) → value_in numbers asked ≡ first_listing versions cxx asked)
+    → option_and_then (value_in numbers) name ≡ position_from (fits_exactly cxx name) 0 versions
 number_first versions cxx numbers None is = none_passes 0 versions
 number_first versions cxx numbers (Some asked) is = is asked ∙ position_as (lists cxx asked) versions
 
@@ -191,9 +191,9 @@ fits_either a v = sym (some_of_four (plain_fits v.version_body.globals Exact a) 
 
 -- the first version of a plain name or of a name of C++
 pub exact_first : (versions : List Version) (index : VersionIndex) (a : Asked) → IsIndexOf versions index
-    → earlier (option_and_then (number_in index.plain) (name_of a false)) (option_and_then (number_in index.cxx) (name_of a true)) ≡ first_exact versions a
+    → earlier (option_and_then (value_in index.plain) (name_of a false)) (option_and_then (value_in index.cxx) (name_of a true)) ≡ first_exact versions a
 exact_first versions index a is =
-    ap (λ (o : Option ℕ). earlier o (option_and_then (number_in index.cxx) (name_of a true))) (number_first versions false index.plain (name_of a false) is.plain)
+    ap (λ (o : Option ℕ). earlier o (option_and_then (value_in index.cxx) (name_of a true))) (number_first versions false index.plain (name_of a false) is.plain)
     ∙ ap (earlier (position_from (fits_exactly false (name_of a false)) 0 versions)) (number_first versions true index.cxx (name_of a true) is.cxx)
     ∙ earlier_from (fits_exactly false (name_of a false)) (fits_exactly true (name_of a true)) 0 versions
     ∙ first_same (λ (v : Version). fits_exactly false (name_of a false) v || fits_exactly true (name_of a true) v) (λ (v : Version). is_some (side_in Exact v a)) 0 versions (fits_either a)

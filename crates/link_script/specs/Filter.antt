@@ -1,7 +1,7 @@
 -- What the patterns of a script mean, and which of them the rules of a version have.
 use Rattle.std.specs.Prelude.{◌≡◌, ℕ, List, [], ◌∷◌, Bool, true, false, Some, IsTrue, ◌⊎◌, ◌↔◌, slice_get}
 use Rattle.link_glob.specs.Glob.{GlobToken}
-use Rattle.link_names.specs.Names.{has_name}
+use Rattle.link_names.specs.Names.{is_member}
 use Rattle.link_syntax.specs.declared.body.Side.{Side}
 use Rattle.link_syntax.specs.declared.body.Side.TheVariants.{Global, Local}
 use Rattle.link_syntax.specs.declared.body.RawVersionBody.{RawVersionBody}
@@ -43,7 +43,7 @@ HasGlob globs p = (k : ℕ) × (slice_get globs k ≡ Some p)
 
 -- the rules have this filter
 abbrev pub HasFilter : BasicMatchRules → Filter → Type 0
-HasFilter r (name n) = IsTrue (has_name r.exact.all n)
+HasFilter r (name n) = IsTrue (is_member r.exact n)
 HasFilter r (nonstar p) = HasGlob r.nonstar_globs.items p
 HasFilter r (star p) = HasGlob r.star_globs.items p
 HasFilter r every = IsTrue r.matches_all

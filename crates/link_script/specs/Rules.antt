@@ -10,15 +10,15 @@ use Rattle.link_script.specs.declared.rules.Class.TheVariants.{Exact, Nonstar, S
 use Rattle.link_syntax.specs.declared.body.Side.{Side}
 use Rattle.link_syntax.specs.declared.body.Side.TheVariants.{Global, Local}
 use Rattle.link_script.specs.Lookup.{Asked}
-use Rattle.link_names.specs.Names.{has_name}
+use Rattle.link_names.specs.Names.{Names, is_member}
 
 abbrev pub has_glob : List (List GlobToken) → List ℕ → Bool
 has_glob [] text = false
 has_glob (glob ∷ globs) text = does_match glob text || has_glob globs text
 
-abbrev pub exact_fits : List (List ℕ) → Option (List ℕ) → Bool
+abbrev pub exact_fits : Names → Option (List ℕ) → Bool
 exact_fits names None = false
-exact_fits names (Some name) = has_name names name
+exact_fits names (Some name) = is_member names name
 
 abbrev pub glob_fits : List (List GlobToken) → Option (List ℕ) → Bool
 glob_fits globs None = false
@@ -26,14 +26,14 @@ glob_fits globs (Some text) = has_glob globs (chars text)
 
 -- whether a pattern of this class fits the name
 abbrev pub rules_fit : BasicMatchRules → Class → Option (List ℕ) → Option (List ℕ) → Bool
-rules_fit rules Exact name text = exact_fits rules.exact.all name
+rules_fit rules Exact name text = exact_fits rules.exact name
 rules_fit rules Nonstar name text = glob_fits rules.nonstar_globs.items text
 rules_fit rules Star name text = glob_fits rules.star_globs.items text
 rules_fit rules Every name text = rules.matches_all
 
--- whether there is a pattern of this class
+-- whether there is a pattern of this class, or room for one
 abbrev pub rules_have : Class → BasicMatchRules → Bool
-rules_have Exact rules = not (length rules.exact.all == 0)
+rules_have Exact rules = not (length rules.exact == 0)
 rules_have Nonstar rules = not (length rules.nonstar_globs.items == 0)
 rules_have Star rules = not (length rules.star_globs.items == 0)
 rules_have Every rules = rules.matches_all

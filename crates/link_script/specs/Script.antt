@@ -3,7 +3,6 @@ use Rattle.std.specs.Prelude.{◌≡◌, ℕ, Bool, true, false, List, [], ◌�
 use Rattle.link_syntax.specs.declared.fault.Fault.{Fault}
 use Rattle.link_syntax.specs.declared.fault.ScriptFault.{ScriptFault}
 use Rattle.link_syntax.specs.declared.fault.ScriptFault.TheVariants as faults
-use Rattle.link_syntax.specs.declared.body.RawVersionBody.{RawVersionBody}
 use Rattle.link_syntax.specs.declared.named.RawVersion.{RawVersion}
 use Rattle.link_syntax.specs.declared.script.RawScript.{RawScript}
 use Rattle.link_syntax.specs.declared.script.RawScript.TheVariants.{Anonymous, Named}

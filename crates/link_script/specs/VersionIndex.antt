@@ -8,13 +8,13 @@ use Rattle.link_syntax.specs.declared.body.Side.TheVariants.{Global, Local}
 use Rattle.link_script.specs.declared.version_index.VersionIndex.{VersionIndex}
 use Rattle.link_script.specs.Filter.{rules_of}
 use Rattle.link_script.specs.Lookup.{Asked}
-use Rattle.link_names.specs.Names.{has_name, number_in}
+use Rattle.link_names.specs.Names.{is_member, value_in}
 use Rattle.link_script.specs.Rules.{version_has, side_in}
 use Rattle.link_script.specs.VersionOf.{last_named}
 
 -- whether the version lists the name exactly, in blocks of C++ (`true`) or outside them
 abbrev pub lists : Bool → List ℕ → Version → Bool
-lists cxx name v = has_name (rules_of v Global cxx).exact.all name || has_name (rules_of v Local cxx).exact.all name
+lists cxx name v = is_member (rules_of v Global cxx).exact name || is_member (rules_of v Local cxx).exact name
 
 -- the number of the first version that lists it
 abbrev pub first_listing : List Version → Bool → List ℕ → Option ℕ
@@ -41,9 +41,9 @@ numbers_with versions class = filter (λ n. has_at class (slice_get versions n))
 
 -- the index has what a look at each of these versions finds
 pub record IsIndexOf (versions : List Version) (index : VersionIndex) : Type 0 where
-  pub named : (name : List ℕ) → number_in index.named name ≡ last_named versions name (length versions)
-  pub plain : (name : List ℕ) → number_in index.plain name ≡ first_listing versions false name
-  pub cxx : (name : List ℕ) → number_in index.cxx name ≡ first_listing versions true name
+  pub named : (name : List ℕ) → value_in index.named name ≡ last_named versions name (length versions)
+  pub plain : (name : List ℕ) → value_in index.plain name ≡ first_listing versions false name
+  pub cxx : (name : List ℕ) → value_in index.cxx name ≡ first_listing versions true name
   pub nonstar : index.nonstar ≡ numbers_with versions Nonstar
   pub star : index.star ≡ numbers_with versions Star
   pub every : index.every ≡ numbers_with versions Every

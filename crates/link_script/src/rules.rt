@@ -2,7 +2,8 @@
 
 ghost use Rattle.std.specs.Prelude.{◌≡◌, ◌↔◌, ◌<◌, ◌≤◌, ◌+◌, [], ◌∷◌, ◌++◌, ◌||◌, ℕ, List, Bool, IsTrue, IsOk, IfOk, OnOk, OnErr};
 ghost use Rattle.link_syntax.specs.declared.matcher.SymbolMatcher.{SymbolMatcher};
-ghost use Rattle.link_script.specs.Room.{is_of, count_of, HasRoom};
+ghost use Rattle.link_script.specs.Room.{is_of, count_of, exact_name, HasNameRoom, HasRoom};
+ghost use Rattle.link_names.specs.Names.{is_member};
 ghost use Rattle.link_script.specs.Lookup.{seen, asked, name_of, text_of};
 ghost use Rattle.link_script.specs.Rank.{HasFit, glob_class};
 ghost use Rattle.std.specs.Str.{chars};
@@ -72,7 +73,7 @@ fn has_glob(globs: &[Pattern], text: &str) -> bool
 }
 
 fn exact_fits(names: &NameSet, name: Option<&[u8]>) -> bool
-    ensures { result ≡ exact_fits names.now.all (option_map (λ n. n.now) name.entry) }
+    ensures { result ≡ exact_fits names.now (option_map (λ n. n.now) name.entry) }
 {
     match name {
         Some(name) => names.contains(name),
@@ -120,6 +121,29 @@ fn is_exact(matcher: &SymbolMatcher) -> bool
         SymbolMatcher::EscapedExact(_) => true,
         _ => false,
     }
+}
+
+/// The name of a pattern that is one name.
+fn exact_name(matcher: &SymbolMatcher) -> Option<&Name>
+    ensures { option_map (λ n. n.now) result ≡ exact_name matcher.now }
+{
+    match matcher {
+        SymbolMatcher::Exact(name) | SymbolMatcher::EscapedExact(name) => Some(name),
+        _ => None,
+    }
+}
+
+/// Makes room for the names among the patterns.
+fn reserve_names(names: &mut NameSet, matchers: &[SymbolMatcher]) -> Result<(), AllocError>
+    ensures same { (asked : List ℕ) → is_member names.new asked ≡ is_member names.old asked }
+    ensures ok { OnOk result (HasNameRoom matchers.now names.new) }
+{
+    for matcher in matchers {
+        if let Some(name) = exact_name(matcher) {
+            names.reserve(name.clone()?)?;
+        }
+    }
+    Ok(())
 }
 
 /// How many of the patterns are kept with those of this class.
@@ -170,7 +194,7 @@ impl BasicMatchRules {
         ensures same { SameRules self.old self.new }
         ensures ok { OnOk result (HasRoom matchers.now self.new) }
     {
-        self.exact.reserve(count_of(Class::Exact, matchers))?;
+        reserve_names(&mut self.exact, matchers)?;
         self.nonstar_globs
             .reserve(count_of(Class::Nonstar, matchers))?;
         self.star_globs.reserve(count_of(Class::Star, matchers))?;
@@ -236,7 +260,7 @@ impl BasicMatchRules {
         &self.exact
     }
 
-    /// Whether there is a pattern of this class.
+    /// Whether there is a pattern of this class, or room for one.
     fn has(&self, class: Class) -> bool
         ensures { result ≡ rules_have class self.now }
     {

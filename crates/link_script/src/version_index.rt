@@ -4,24 +4,24 @@ ghost use Rattle.std.specs.Prelude.{◌≡◌, ◌∷◌, [], ◌++◌, ◌||◌
 ghost use Rattle.std.specs.Option.{option_and_then, option_map, option_or};
 ghost use Rattle.link_script.specs.declared.rules.Version.{Version};
 ghost use Rattle.link_script.specs.Lookup.{seen};
-ghost use Rattle.link_names.specs.Names.{has_name, number_in};
+ghost use Rattle.link_names.specs.Names.{is_member, value_in};
 ghost use Rattle.link_script.specs.VersionOf.{last_named};
 ghost use Rattle.link_script.specs.VersionIndex.{IsIndexOf, earlier, first_exact};
 
 use crate::lookup::{Lookup, name_of};
 use crate::rules::{BasicMatchRules, Class, Version, VersionBody};
-use link_names::{NameMap, Seq};
+use link_names::{Name, NameMap, Seq};
 use std::alloc::{AllocError, Global};
 
 /// The numbers of the versions of a script by what is looked up, so that no look-up goes over all versions.
 #[derive(Drop)]
 pub struct VersionIndex {
     /// The last version of each name.
-    named: NameMap,
+    named: NameMap<u16>,
     /// The first version that lists each name exactly, outside blocks of C++.
-    plain: NameMap,
+    plain: NameMap<u16>,
     /// The same in blocks of C++.
-    cxx: NameMap,
+    cxx: NameMap<u16>,
     /// The versions that have a glob without a star.
     nonstar: Seq<u16>,
     /// The versions that have a glob with a star.
@@ -42,8 +42,8 @@ fn earlier(first: Option<u16>, second: Option<u16>) -> Option<u16>
 }
 
 /// The number of the name, where there is one.
-fn number_of(numbers: &NameMap, name: Option<&[u8]>) -> Option<u16>
-    ensures { result ≡ option_and_then (number_in numbers.now) (option_map (λ n. n.now) name.entry) }
+fn number_of(numbers: &NameMap<u16>, name: Option<&[u8]>) -> Option<u16>
+    ensures { result ≡ option_and_then (value_in numbers.now) (option_map (λ n. n.now) name.entry) }
 {
     match name {
         Some(name) => numbers.get(name),
@@ -53,14 +53,14 @@ fn number_of(numbers: &NameMap, name: Option<&[u8]>) -> Option<u16>
 
 /// Gives the number to each name that has none and that one of the sections lists exactly.
 fn note_listed(
-    numbers: &mut NameMap,
+    numbers: &mut NameMap<u16>,
     alloc: Global,
     globals: &BasicMatchRules,
     locals: &BasicMatchRules,
     number: u16,
 ) -> Result<(), AllocError>
-    ensures { OnOk result ((asked : List ℕ) → number_in numbers.new asked ≡ option_or (number_in numbers.old asked)
-        (if has_name globals.now.exact.all asked || has_name locals.now.exact.all asked then Some number else None)) }
+    ensures { OnOk result ((asked : List ℕ) → value_in numbers.new asked ≡ option_or (value_in numbers.old asked)
+        (if is_member globals.now.exact asked || is_member locals.now.exact asked then Some number else None)) }
 {
     numbers.note_all(alloc, globals.exact_names(), number)?;
     numbers.note_all(alloc, locals.exact_names(), number)?;
@@ -97,8 +97,7 @@ impl VersionIndex {
         ensures { OnOk result ((versions : List Version) → length versions ≡ number → IsIndexOf versions self.old → IsIndexOf (versions ++ version.now ∷ []) self.new) }
     {
         let VersionBody { globals, locals } = &version.version_body;
-        self.named
-            .note_last(alloc, version.name.as_slice(), number)?;
+        self.named.note(Name::from_slice(alloc, version.name.as_slice())?, number)?;
         note_listed(
             &mut self.plain,
             alloc,

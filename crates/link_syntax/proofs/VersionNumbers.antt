@@ -4,7 +4,7 @@ use Rattle.std.specs.Option.{option_or}
 use Rattle.std.specs.Str.{bytes_eq}
 use Rattle.std.proofs.lemmas.Bool.{cases_Bool}
 use Rattle.std.proofs.lemmas.Slice.Eq.{bytes_eq-Decides}
-use Rattle.link_names.specs.Names.{number_in}
+use Rattle.link_names.specs.Names.{value_in}
 use Rattle.link_syntax.specs.declared.named.RawVersion.{RawVersion}
 use Rattle.link_syntax.specs.Named.{number_of as number_from, AreNumbers}
 
@@ -29,7 +29,7 @@ number_more n (first ∷ versions) v asked =
 
 -- versions and one more have their numbers
 pub numbers_more : (versions : List RawVersion) (v : RawVersion) (old new : List (List ℕ × ℕ)) → AreNumbers versions old
-    → ((asked : List ℕ) → number_in new asked ≡ option_or (number_in old asked) (if bytes_eq asked v.name then Some (length versions + 1) else None))
+    → ((asked : List ℕ) → value_in new asked ≡ option_or (value_in old asked) (if bytes_eq asked v.name then Some (length versions + 1) else None))
     → AreNumbers (versions ++ v ∷ []) new
 numbers_more versions v old new are noted name =
     noted name ∙ ap (λ (o : Option ℕ). option_or o (if bytes_eq name v.name then Some (length versions + 1) else None)) (are name)

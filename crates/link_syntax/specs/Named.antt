@@ -7,7 +7,7 @@ use Rattle.link_syntax.specs.declared.fault.ScriptErrorKind.TheVariants.{Syntax,
 use Rattle.link_syntax.specs.Fault.{◌>>=◌, refuse}
 use Rattle.link_syntax.specs.Skip.{skip}
 use Rattle.link_syntax.specs.Many.{grow}
-use Rattle.link_names.specs.Names.{number_in}
+use Rattle.link_names.specs.Names.{value_in}
 use Rattle.link_syntax.specs.Body.{body_at}
 
 -- not a space, tab, LF, parenthesis or brace
@@ -25,7 +25,7 @@ number_of n (v ∷ versions) name = if bytes_eq v.name name then Some n else num
 
 -- the numbers are those of the versions' names
 abbrev pub AreNumbers : List RawVersion → List (List ℕ × ℕ) → Type 0
-AreNumbers versions numbers = (name : List ℕ) → number_in numbers name ≡ number_of 1 versions name
+AreNumbers versions numbers = (name : List ℕ) → value_in numbers name ≡ number_of 1 versions name
 
 -- the names of versions
 abbrev pub raw_names : List RawVersion → List (List ℕ)

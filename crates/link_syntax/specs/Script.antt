@@ -5,7 +5,6 @@ use Rattle.link_syntax.specs.declared.fault.ScriptFault.{ScriptFault}
 use Rattle.link_syntax.specs.declared.fault.ScriptFault.TheVariants as faults
 use Rattle.link_syntax.specs.declared.fault.ScriptErrorKind.TheVariants.{Syntax}
 use Rattle.link_syntax.specs.declared.body.RawVersionBody.{RawVersionBody}
-use Rattle.link_syntax.specs.declared.named.RawVersion.{RawVersion}
 use Rattle.link_syntax.specs.declared.script.RawScript.{RawScript}
 use Rattle.link_syntax.specs.declared.script.RawScript.TheVariants.{Anonymous, Named}
 use Rattle.link_syntax.specs.Fault.{◌>>=◌, refuse}

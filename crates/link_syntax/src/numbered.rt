@@ -4,7 +4,7 @@ ghost use Rattle.std.specs.Prelude.{◌≡◌, ◌<◌, [], ◌∷◌, ◌++◌,
 ghost use Rattle.link_syntax.specs.Named.{number_of};
 
 use crate::named::RawVersion;
-use link_names::{NameMap, Seq};
+use link_names::{Name, NameMap, Seq};
 use std::alloc::{AllocError, Global};
 use std::marker::Model;
 
@@ -12,7 +12,7 @@ use std::marker::Model;
 #[derive(Drop)]
 pub struct NumberedVersions {
     versions: Seq<RawVersion>,
-    numbers: NameMap,
+    numbers: NameMap<u16>,
 }
 
 impl Model for NumberedVersions {
@@ -63,7 +63,7 @@ impl NumberedVersions {
             mut numbers,
         } = self;
         let number = versions.len() as u16 + 1;
-        numbers.note_first(alloc, version.name.as_slice(), number)?;
+        numbers.note_first(Name::from_slice(alloc, version.name.as_slice())?, number)?;
         versions.push(version)?;
         Ok(NumberedVersions { versions, numbers })
     }

@@ -6,7 +6,7 @@ use Rattle.link_script.proofs.version_index.VersionIndex.note.Goals as goal
 
 pub returns : goal.returns
 returns c = λ versions e is. record {
-  named = λ name. noted_name versions c.args.version.now name c.args.number _ _ e (is.named name) (rw c.as_slice.ensures at c.in_ok-note_last.ensures name);
+  named = λ name. noted_name versions c.args.version.now name c.args.number _ _ e (is.named name) (rw (c.in_ok-from_slice.ensures, c.as_slice.ensures) at c.in_ok-note.ensures.ok name);
   plain = λ name. noted_first (lists false name) c.args.number versions c.args.version.now _ _ e (is.plain name) (c.in_ok-note_listed.ensures name);
   cxx = λ name. noted_first (lists true name) c.args.number versions c.args.version.now _ _ e (is.cxx name) (c.in_ok-note_listed-2.ensures name);
   nonstar = noted_number versions c.args.version.now Nonstar c.args.number _ _ e is.nonstar (rw c.has.ensures at c.in_ok-note_if.ensures);

@@ -8,5 +8,5 @@ invariant_of-result c =
     let few = rw (← c.self.view_is) at c.requires in
     rw c.in_ok-push.ensures.ok (
       simp length-append (omega (arith, few)),
-      numbers_more c.self.inside.versions c.args.version c.self.inside.numbers c.note_first.new.self c.self.invariant.1 (rw (c.as_slice.ensures, c.len.ensures) at c.in_ok-note_first.ensures),
+      numbers_more c.self.inside.versions c.args.version c.self.inside.numbers c.note_first.new.self c.self.invariant.1 (rw (c.in_ok-from_slice.ensures, c.as_slice.ensures, c.len.ensures) at c.in_ok-note_first.ensures.ok),
     )
