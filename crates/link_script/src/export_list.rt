@@ -138,6 +138,3 @@ impl ExportList {
         self.required.as_slice()
     }
 }
-
-#[cfg(test)]
-mod tests;

@@ -97,7 +97,8 @@ impl VersionIndex {
         ensures { OnOk result ((versions : List Version) → length versions ≡ number → IsIndexOf versions self.old → IsIndexOf (versions ++ version.now ∷ []) self.new) }
     {
         let VersionBody { globals, locals } = &version.version_body;
-        self.named.note(Name::from_slice(alloc, version.name.as_slice())?, number)?;
+        self.named
+            .note(Name::from_slice(alloc, version.name.as_slice())?, number)?;
         note_listed(
             &mut self.plain,
             alloc,
