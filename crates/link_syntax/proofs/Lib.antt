@@ -1,14 +1,16 @@
 pub mod Repeat
 pub mod Sections
 pub mod Growing
+pub mod Judged
 pub mod Skipping
-pub mod Spelled
+pub mod TokenLaws
 pub mod FirstClose
 pub mod LineByLine
 pub mod Places
 pub mod Repeated
 pub mod BlockLaws
 pub mod BodyLaws
+pub mod NamedLaws
 pub mod ScriptLaws
 pub mod ListLaws
 pub mod Answered

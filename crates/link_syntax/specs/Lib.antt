@@ -14,4 +14,6 @@ pub mod GnuList
 pub mod ForcedName
 pub mod MachoList
 pub mod Grammar
+pub mod Faults
 pub mod ListGrammar
+pub mod ListFaults

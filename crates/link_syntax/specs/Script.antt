@@ -1,8 +1,6 @@
 -- Whole scripts.
-use Rattle.std.specs.Prelude.{◌≡◌, ◌<◌, ℕ, ◌==◌, if◌then◌else◌, List, length, Result, Ok, Err}
+use Rattle.std.specs.Prelude.{◌≡◌, ◌<◌, ℕ, ◌==◌, if◌then◌else◌, List, length, Result, Ok}
 use Rattle.link_syntax.specs.declared.fault.Fault.{Fault}
-use Rattle.link_syntax.specs.declared.fault.ScriptFault.{ScriptFault}
-use Rattle.link_syntax.specs.declared.fault.ScriptFault.TheVariants as faults
 use Rattle.link_syntax.specs.declared.fault.ScriptErrorKind.TheVariants.{Syntax}
 use Rattle.link_syntax.specs.declared.body.RawVersionBody.{RawVersionBody}
 use Rattle.link_syntax.specs.declared.named.RawVersion.{RawVersion}
@@ -31,9 +29,3 @@ script_at text = skip text >>= λ text.
 abbrev pub IsFew : RawScript → Type 0
 IsFew (Anonymous body) = Unit {0}
 IsFew (Named versions) = length versions < 32767
-
--- this script, unless memory ran out
-abbrev pub ReadsAs : RawScript → Result RawScript ScriptFault → Type 0
-ReadsAs raw (Ok read) = read ≡ raw
-ReadsAs raw (Err faults.Memory) = Unit {0}
-ReadsAs raw (Err (faults.Text t)) = ⊥

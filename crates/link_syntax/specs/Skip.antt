@@ -1,4 +1,4 @@
--- Blanks and comments, byte by byte.
+-- Spaces and comments, byte by byte. Blanks says what they are, and that the whole of them is skipped.
 use Rattle.std.specs.Prelude.{ℕ, Bool, false, List, [], ◌∷◌, length, ◌==◌, ◌&&◌, ◌||◌, if◌then◌else◌, Option, Some, None, Result, Ok, Err}
 use Rattle.link_syntax.specs.declared.skip.Mode.{Mode}
 use Rattle.link_syntax.specs.declared.skip.Mode.TheVariants.{Plain, Line, Opening, Block, Closing}
