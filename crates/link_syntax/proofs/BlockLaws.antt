@@ -15,10 +15,10 @@ use Rattle.link_syntax.specs.Words.{extern_word, word_of, c_word, cxx_word, open
 use Rattle.link_syntax.specs.Many.{alone}
 use Rattle.link_syntax.specs.Blanks.{Skipped, Unclosed}
 use Rattle.link_syntax.specs.Skip.{skip, strips}
-use Rattle.link_syntax.specs.Token.{token_at, IsToken}
+use Rattle.link_syntax.specs.Token.{token_at}
 use Rattle.link_syntax.specs.Block.{or_else, language_at, extern_text, inner_extern, close_place, semicolon_before, closed_token, block_turn, block_at}
 use Rattle.link_syntax.specs.Entry.{of_language, extern_block, extern_at, entry_at}
-use Rattle.link_syntax.specs.Grammar.{NotHere, NoClose, Repeats, block_stop, IsBlockToken, BlockTurn, IsExtern, IsEntry}
+use Rattle.link_syntax.specs.Grammar.{NotHere, NoClose, Repeats, block_stop, BlockTurn, IsExtern, IsEntry}
 use Rattle.link_syntax.specs.Faults as faults
 use Rattle.link_syntax.specs.Faults.{TokenFails, NoLanguage, IsNested, known, unknown, BlockTurnFails, BlockFails, ExternFails, EntryFails}
 use Rattle.link_syntax.proofs.Skipping.{skip_is, skip_fails, skip_or_not}

@@ -1,5 +1,5 @@
 -- Bodies by their grammar, with their faults.
-use Rattle.std.proofs.Common.{◌≡◌, ℕ, ◌<◌, ◌≤◌, List, [], ◌∷◌, ◌++◌, length, Option, Some, None, Result, Ok, refl, sym, ap, subst, ◌∙◌, inl, inr, arith}
+use Rattle.std.proofs.Common.{◌≡◌, ℕ, ◌<◌, ◌≤◌, List, [], ◌++◌, length, Option, Some, None, Result, Ok, refl, sym, ap, subst, ◌∙◌, inl, inr, arith}
 use Rattle.link_syntax.specs.declared.fault.Fault.{Fault}
 use Rattle.link_syntax.specs.declared.fault.ScriptErrorKind.{ScriptErrorKind}
 use Rattle.link_syntax.specs.declared.fault.ScriptErrorKind.TheVariants.{Syntax}
@@ -16,7 +16,7 @@ use Rattle.link_syntax.specs.Skip.{skip, strips}
 use Rattle.link_syntax.specs.Block.{or_else}
 use Rattle.link_syntax.specs.Entry.{entry_at}
 use Rattle.link_syntax.specs.Body.{body_turn, body_of, pieces_at, body_at}
-use Rattle.link_syntax.specs.Grammar.{NotHere, Repeats, BodyTurn, IsBody, IsEntry}
+use Rattle.link_syntax.specs.Grammar.{NotHere, Repeats, BodyTurn, IsBody}
 use Rattle.link_syntax.specs.Faults as faults
 use Rattle.link_syntax.specs.Faults.{RepeatFails, EntryFails, BodyTurnFails, BodyFails}
 use Rattle.link_syntax.proofs.Skipping.{skip_is, skip_fails, skip_or_not}

@@ -13,5 +13,6 @@ pub mod BodyLaws
 pub mod NamedLaws
 pub mod ScriptLaws
 pub mod ListLaws
+pub mod MachoLaws
 pub mod Answered
 pub mod VersionNumbers

@@ -1,5 +1,5 @@
 -- GNU export lists, and what is added to a list, by their grammar, with their faults.
-use Rattle.std.proofs.Common.{◌≡◌, ◌==◌, ℕ, ◌<◌, Bool, true, false, cond, List, [], ◌∷◌, ◌++◌, length, take, Option, Some, None, Result, Ok, Err, refl, sym, ap, subst, ◌∙◌, inl, inr, arith}
+use Rattle.std.proofs.Common.{◌≡◌, ◌==◌, ℕ, ◌<◌, Bool, true, false, List, [], ◌∷◌, ◌++◌, length, take, Option, Some, None, Result, Ok, refl, ap, subst, ◌∙◌, inl, inr, arith}
 use Rattle.std.specs.Prelude.{position}
 use Rattle.std.proofs.lemmas.Bool.{ne_eqb}
 use Rattle.std.proofs.lemmas.List.{take_at}
@@ -11,7 +11,7 @@ use Rattle.link_syntax.specs.declared.matcher.SymbolMatcher.{SymbolMatcher}
 use Rattle.link_syntax.specs.declared.matcher.ParsedSymbolMatcher.{ParsedSymbolMatcher}
 use Rattle.link_syntax.specs.declared.matcher.ParsedSymbolMatcher.TheVariants.{Single, Multiple, CxxMatchers}
 use Rattle.link_syntax.specs.Fault.{◌>>=◌, refuse}
-use Rattle.link_syntax.specs.Words.{extern_word, c_word, cxx_word, open_word, close_word}
+use Rattle.link_syntax.specs.Words.{extern_word, open_word, close_word}
 use Rattle.link_syntax.specs.Many.{alone}
 use Rattle.link_syntax.specs.Blanks.{Skipped, Unclosed}
 use Rattle.link_syntax.specs.Skip.{skip, strips}

@@ -1,5 +1,5 @@
 -- Named versions by their grammar, with their faults.
-use Rattle.std.proofs.Common.{◌≡◌, ◌==◌, ℕ, zero, suc, ◌+◌, ◌<◌, ◌≤◌, Bool, true, false, cond, List, [], ◌∷◌, ◌++◌, length, take, drop, Option, Some, None, Result, Ok, refl, sym, ap, subst, ◌∙◌, ◌⊎◌, inl, inr, arith}
+use Rattle.std.proofs.Common.{◌≡◌, ◌==◌, ℕ, zero, suc, ◌+◌, ◌<◌, true, false, cond, List, [], ◌∷◌, ◌++◌, length, take, drop, Option, Some, None, Result, Ok, refl, sym, ap, subst, ◌∙◌, ◌⊎◌, inl, inr, arith}
 use Rattle.std.specs.Prelude.{position, slice_get}
 use Rattle.std.specs.Str.{bytes_eq}
 use Rattle.std.proofs.lemmas.Bool.{eqb-true, eqb-false, eq-eqb, ne_eqb}
@@ -11,7 +11,7 @@ use Rattle.link_syntax.specs.declared.fault.ScriptErrorKind.TheVariants.{Syntax,
 use Rattle.link_syntax.specs.declared.body.RawVersionBody.{RawVersionBody}
 use Rattle.link_syntax.specs.declared.named.RawVersion.{RawVersion}
 use Rattle.link_syntax.specs.Fault.{◌>>=◌, refuse}
-use Rattle.link_syntax.specs.Blanks.{Skipped, Unclosed}
+use Rattle.link_syntax.specs.Blanks.{Skipped}
 use Rattle.link_syntax.specs.Many.{grow}
 use Rattle.link_syntax.specs.Skip.{skip}
 use Rattle.link_syntax.specs.Token.{Without}

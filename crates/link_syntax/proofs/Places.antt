@@ -2,7 +2,6 @@
 use Rattle.std.proofs.Common.{◌≡◌, ℕ, suc, ◌+◌, ◌<◌, ◌≤◌, ◌==◌, Bool, true, false, cond, List, [], ◌∷◌, ◌++◌, length, Option, Some, None, Result, Ok, Err, refl, ap, ◌∙◌, ◌⊎◌, inl, inr, arith}
 use Rattle.std.specs.Prelude.{◌&&◌, not, nat_lt}
 use Rattle.std.specs.List.{list_any, prefix_len}
-use Rattle.std.specs.Option.{option_map}
 use Rattle.std.proofs.lemmas.Bool.{eqb-true, eq-eqb, lt-ltb, le-ltb}
 use Rattle.std.proofs.lemmas.Option.{same_Some}
 use Rattle.std.proofs.lemmas.List.{length-append}
@@ -10,7 +9,7 @@ use Rattle.link_syntax.specs.declared.fault.Fault.{Fault}
 use Rattle.link_syntax.specs.Fault.{◌>>=◌}
 use Rattle.link_syntax.specs.Blanks.{Piece, blank, line, block, InFront, Skipped}
 use Rattle.link_syntax.specs.Skip.{strips, begins_with}
-use Rattle.link_syntax.specs.Block.{or_else, is_close, close_place, semicolon_before}
+use Rattle.link_syntax.specs.Block.{or_else, close_place, semicolon_before}
 use Rattle.link_syntax.specs.Token.{IsToken, after_semicolon}
 use Rattle.link_syntax.specs.Grammar.{NotHere, NoClose}
 

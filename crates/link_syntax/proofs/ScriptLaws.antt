@@ -1,7 +1,6 @@
 -- Whole scripts by their grammar, with their faults.
-use Rattle.std.proofs.Common.{◌≡◌, ◌==◌, ℕ, Bool, true, false, cond, List, [], ◌∷◌, ◌++◌, length, Result, Ok, Err, refl, sym, ap, subst, ◌∙◌, inl, inr, arith}
-use Rattle.std.proofs.lemmas.Bool.{eqb-true, ne_eqb}
-use Rattle.std.proofs.lemmas.List.{nil_from_length}
+use Rattle.std.proofs.Common.{◌≡◌, ◌==◌, ℕ, Bool, true, false, cond, List, [], ◌∷◌, ◌++◌, length, Result, Ok, refl, sym, ap, subst, ◌∙◌, inl, inr, arith}
+use Rattle.std.proofs.lemmas.Bool.{ne_eqb}
 use Rattle.link_syntax.specs.declared.fault.Fault.{Fault}
 use Rattle.link_syntax.specs.declared.fault.ScriptErrorKind.{ScriptErrorKind}
 use Rattle.link_syntax.specs.declared.fault.ScriptErrorKind.TheVariants.{Syntax}
@@ -21,7 +20,7 @@ use Rattle.link_syntax.specs.Grammar.{NotHere, IsBody, IsVersionScript}
 use Rattle.link_syntax.specs.Faults as faults
 use Rattle.link_syntax.specs.Faults.{BodyFails, EndFails, ScriptFails}
 use Rattle.link_syntax.proofs.Skipping.{skip_is, skip_fails, skip_or_not}
-use Rattle.link_syntax.proofs.Places.{is_or, bind_is, bind_err, or_else_none, strips_none, word_or_not, no_test, begins_cons}
+use Rattle.link_syntax.proofs.Places.{bind_is, bind_err, or_else_none, strips_none, word_or_not, no_test, begins_cons}
 use Rattle.link_syntax.proofs.Judged.{Either, Judges}
 use Rattle.link_syntax.proofs.BodyLaws.{body_judged}
 use Rattle.link_syntax.proofs.NamedLaws.{versions_judged}

@@ -1,5 +1,5 @@
 -- Names and patterns by their grammar, with their faults.
-use Rattle.std.proofs.Common.{◌≡◌, ℕ, ◌-◌, ◌<◌, ◌≤◌, ◌==◌, Bool, true, false, cond, List, [], ◌∷◌, ◌++◌, length, take, drop, Option, Some, None, Result, Ok, Err, refl, sym, ap, subst, ◌∙◌, ◌⊎◌, inl, inr, arith}
+use Rattle.std.proofs.Common.{◌≡◌, ℕ, ◌-◌, ◌<◌, ◌==◌, Bool, true, false, cond, List, [], ◌∷◌, ◌++◌, length, take, drop, Option, Some, None, Result, Ok, Err, refl, sym, ap, subst, ◌∙◌, ◌⊎◌, inl, inr, arith}
 use Rattle.std.specs.Prelude.{position, not, IfOk}
 use Rattle.std.specs.List.{prefix_len}
 use Rattle.std.proofs.lemmas.Bool.{eqb-true, eqb-false, eq-eqb, ne_eqb, lt-ltb, le-ltb}
@@ -22,7 +22,7 @@ use Rattle.link_syntax.specs.declared.matcher.SymbolMatcher.TheVariants.{Exact, 
 use Rattle.link_syntax.specs.Fault.{◌>>=◌, refuse, Gives}
 use Rattle.link_syntax.specs.Token.{is_quoted, is_star, glob_from, glob_at, matcher_by, matcher_of, token_ended, token_at, trimmed, after_semicolon, Without, IsToken}
 use Rattle.link_syntax.specs.Faults.{IsGlobFault, IsBadPattern, TokenFails, endless, empty, bad_pattern}
-use Rattle.link_syntax.proofs.Places.{is_or, bind_is, bind_err}
+use Rattle.link_syntax.proofs.Places.{is_or}
 use Rattle.link_syntax.proofs.Judged.{Either, Judges, found}
 
 -- ---- the byte that ends a token

@@ -2,7 +2,6 @@
 use Rattle.std.specs.Prelude.{◌≡◌, ◌≢◌, ◌<◌, ◌+◌, ℕ, false, IsTrue, List, [], ◌∷◌, ◌++◌, length, slice_get, Option, Some, Result, Ok, Err, ◌⊎◌}
 use Rattle.link_glob.specs.declared.fault.GlobError.{GlobError}
 use Rattle.link_glob.specs.declared.fault.GlobError.TheVariants as globs
-use Rattle.link_glob.specs.declared.analyze.GlobPatternType.{GlobPatternType}
 use Rattle.link_glob.specs.declared.analyze.GlobPatternType.TheVariants as types
 use Rattle.link_glob.specs.declared.compile.Dialect.TheVariants.{Gnu}
 use Rattle.link_glob.specs.Glob.{GlobToken}

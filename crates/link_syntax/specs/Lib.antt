@@ -17,3 +17,4 @@ pub mod Grammar
 pub mod Faults
 pub mod ListGrammar
 pub mod ListFaults
+pub mod MachoGrammar

@@ -1,9 +1,8 @@
 -- Whole scripts.
-use Rattle.std.specs.Prelude.{◌≡◌, ◌<◌, ℕ, ◌==◌, if◌then◌else◌, List, length, Result, Ok}
+use Rattle.std.specs.Prelude.{◌<◌, ℕ, ◌==◌, if◌then◌else◌, List, length, Result, Ok}
 use Rattle.link_syntax.specs.declared.fault.Fault.{Fault}
 use Rattle.link_syntax.specs.declared.fault.ScriptErrorKind.TheVariants.{Syntax}
 use Rattle.link_syntax.specs.declared.body.RawVersionBody.{RawVersionBody}
-use Rattle.link_syntax.specs.declared.named.RawVersion.{RawVersion}
 use Rattle.link_syntax.specs.declared.script.RawScript.{RawScript}
 use Rattle.link_syntax.specs.declared.script.RawScript.TheVariants.{Anonymous, Named}
 use Rattle.link_syntax.specs.Fault.{◌>>=◌, refuse}

@@ -43,3 +43,7 @@ close_word = 125 ∷ 59 ∷ []
 -- `;`
 abbrev pub semicolon_word : List ℕ
 semicolon_word = 59 ∷ []
+
+-- `*`
+abbrev pub star_word : List ℕ
+star_word = 42 ∷ []
