@@ -2,6 +2,7 @@
 use Rattle.std.specs.Prelude.{◌≡◌, ◌≢◌, ℕ, true, false, List, [], ◌∷◌, ◌++◌}
 use Rattle.link_syntax.specs.Skip.{is_blank}
 
+-- a piece of the text: a space, tab, CR or LF; a comment from `#` up to the end of its line; or one between `/*` and `*/`
 pub data Piece : Type 0 where
   blank : (byte : ℕ) → Piece
   line : (bytes : List ℕ) → Piece

@@ -45,7 +45,8 @@ pub data TokenFails (stop : ℕ) (text : List ℕ) : ScriptErrorKind → List �
   -- nothing stands in front of it
   empty : (after : List ℕ) → text ≡ stop ∷ after → TokenFails stop text Syntax text
   -- what stands in front of it is a pattern that can't be compiled
-  bad_pattern : (bytes after : List ℕ) (kind : ScriptErrorKind) → text ≡ bytes ++ stop ∷ after → 0 < length bytes → Without stop bytes → IsBadPattern (trimmed bytes) kind → TokenFails stop text kind text
+  bad_pattern : (bytes after : List ℕ) (kind : ScriptErrorKind) → text ≡ bytes ++ stop ∷ after → 0 < length bytes → Without stop bytes
+      → IsBadPattern (trimmed bytes) kind → TokenFails stop text kind text
 
 -- ---- repetitions
 
@@ -78,7 +79,8 @@ pub data BlockTurnFails (text : List ℕ) : ScriptErrorKind → List ℕ → Typ
   -- no `};` comes
   endless : (at : List ℕ) → Skipped text at → NotHere extern_word at → NoClose at → BlockTurnFails text Syntax at
   -- a name or pattern that fails, where what is in front of the next `};` says which byte ends it
-  token : (here inner after at : List ℕ) (kind : ScriptErrorKind) → Skipped text here → NotHere close_word here → NotHere extern_word here → here ≡ inner ++ 125 ∷ 59 ∷ after → NoClose inner → TokenFails (block_stop inner) here kind at → BlockTurnFails text kind at
+  token : (here inner after at : List ℕ) (kind : ScriptErrorKind) → Skipped text here → NotHere close_word here → NotHere extern_word here
+      → here ≡ inner ++ 125 ∷ 59 ∷ after → NoClose inner → TokenFails (block_stop inner) here kind at → BlockTurnFails text kind at
 
 -- in a block some turn fails
 abbrev pub BlockFails : List ℕ → ScriptErrorKind → List ℕ → Type 0
@@ -93,7 +95,8 @@ pub data ExternFails (text : List ℕ) : ScriptErrorKind → List ℕ → Type 0
   -- no `{`
   no_brace : (language : Language) (behind at : List ℕ) → text ≡ word_of language ++ behind → Skipped behind at → NotHere open_word at → ExternFails text Syntax at
   -- the block fails
-  inside : (language : Language) (behind block at : List ℕ) (kind : ScriptErrorKind) → text ≡ word_of language ++ behind → Skipped behind (open_word ++ block) → BlockFails block kind at → ExternFails text kind at
+  inside : (language : Language) (behind block at : List ℕ) (kind : ScriptErrorKind) → text ≡ word_of language ++ behind → Skipped behind (open_word ++ block)
+      → BlockFails block kind at → ExternFails text kind at
 
 -- ---- entries and bodies
 
@@ -111,14 +114,16 @@ pub data BodyTurnFails (text : List ℕ) : ScriptErrorKind → List ℕ → Type
   -- a comment behind the closing brace is never closed
   comment_behind : (after at : List ℕ) → Skipped text (brace_word ++ after) → Unclosed after at → BodyTurnFails text Syntax at
   -- an entry fails
-  entry : (here at : List ℕ) (kind : ScriptErrorKind) → Skipped text here → NotHere brace_word here → NotHere global_word here → NotHere local_word here → EntryFails here kind at → BodyTurnFails text kind at
+  entry : (here at : List ℕ) (kind : ScriptErrorKind) → Skipped text here → NotHere brace_word here → NotHere global_word here → NotHere local_word here
+      → EntryFails here kind at → BodyTurnFails text kind at
 
 -- a body
 pub data BodyFails (text : List ℕ) : ScriptErrorKind → List ℕ → Type 0 where
   -- no `{`
   no_brace : NotHere open_word text → BodyFails text Syntax text
   -- behind it some turn fails
-  inside : (inside at : List ℕ) (kind : ScriptErrorKind) (its : List Item) → text ≡ open_word ++ inside → RepeatFails BodyTurn (λ front. BodyTurnFails) [] its inside kind at → BodyFails text kind at
+  inside : (inside at : List ℕ) (kind : ScriptErrorKind) (its : List Item) → text ≡ open_word ++ inside
+      → RepeatFails BodyTurn (λ front. BodyTurnFails) [] its inside kind at → BodyFails text kind at
 
 -- ---- named versions
 
@@ -131,7 +136,8 @@ pub data ParentFails (front : List RawVersion) (text : List ℕ) : ScriptErrorKi
   -- no semicolon comes
   endless : Without 59 text → ParentFails front text Syntax text
   -- no earlier version has its name
-  unknown : (name after : List ℕ) → text ≡ name ++ 59 ∷ after → Without 59 name → 0 < length name → IsUnknown (raw_names front) name → ParentFails front text UnknownParentVersion text
+  unknown : (name after : List ℕ) → text ≡ name ++ 59 ∷ after → Without 59 name → 0 < length name → IsUnknown (raw_names front) name
+      → ParentFails front text UnknownParentVersion text
 
 -- the name of a version that there may still be, and what is behind it
 pub record IsNameOfVersion (front : List RawVersion) (text name behind : List ℕ) : Type 0 where
@@ -150,11 +156,14 @@ pub data NamedFails (front : List RawVersion) (text : List ℕ) : ScriptErrorKin
   -- a comment behind the name is never closed
   comment : (name behind at : List ℕ) → IsNameOfVersion front text name behind → Unclosed behind at → NamedFails front text Syntax at
   -- the body fails
-  body : (name behind here at : List ℕ) (kind : ScriptErrorKind) → IsNameOfVersion front text name behind → Skipped behind here → BodyFails here kind at → NamedFails front text kind at
+  body : (name behind here at : List ℕ) (kind : ScriptErrorKind) → IsNameOfVersion front text name behind → Skipped behind here → BodyFails here kind at
+      → NamedFails front text kind at
   -- the parent fails
-  parent : (name behind here there at : List ℕ) (kind : ScriptErrorKind) (body : RawVersionBody) → IsNameOfVersion front text name behind → Skipped behind here → IsBody here body there → ParentFails front there kind at → NamedFails front text kind at
+  parent : (name behind here there at : List ℕ) (kind : ScriptErrorKind) (body : RawVersionBody) → IsNameOfVersion front text name behind → Skipped behind here
+      → IsBody here body there → ParentFails front there kind at → NamedFails front text kind at
   -- a comment behind the parent's semicolon is never closed
-  comment_behind : (name behind here there after at : List ℕ) (body : RawVersionBody) (parent : Option ℕ) → IsNameOfVersion front text name behind → Skipped behind here → IsBody here body there → IsParent front there parent after → Unclosed after at → NamedFails front text Syntax at
+  comment_behind : (name behind here there after at : List ℕ) (body : RawVersionBody) (parent : Option ℕ) → IsNameOfVersion front text name behind
+      → Skipped behind here → IsBody here body there → IsParent front there parent after → Unclosed after at → NamedFails front text Syntax at
 
 -- a version where the text has not ended
 abbrev pub VersionTurnFails : List RawVersion → List ℕ → ScriptErrorKind → List ℕ → Type 0
@@ -178,9 +187,11 @@ pub data ScriptFails (text : List ℕ) : ScriptErrorKind → List ℕ → Type 0
   -- no semicolon stands behind the body
   no_semicolon : (here at : List ℕ) (body : RawVersionBody) → Skipped text here → IsBody here body at → NotHere semicolon_word at → ScriptFails text Syntax at
   -- behind the semicolon the text does not end
-  behind : (here after at : List ℕ) (kind : ScriptErrorKind) (body : RawVersionBody) → Skipped text here → IsBody here body (semicolon_word ++ after) → EndFails after kind at → ScriptFails text kind at
+  behind : (here after at : List ℕ) (kind : ScriptErrorKind) (body : RawVersionBody) → Skipped text here → IsBody here body (semicolon_word ++ after)
+      → EndFails after kind at → ScriptFails text kind at
   -- named versions: one of them fails
-  version : (here at : List ℕ) (kind : ScriptErrorKind) (versions : List RawVersion) → Skipped text here → NotHere open_word here → RepeatFails VersionTurn VersionTurnFails [] versions here kind at → ScriptFails text kind at
+  version : (here at : List ℕ) (kind : ScriptErrorKind) (versions : List RawVersion) → Skipped text here → NotHere open_word here
+      → RepeatFails VersionTurn VersionTurnFails [] versions here kind at → ScriptFails text kind at
 
 -- ---- answers
 

@@ -83,6 +83,7 @@ ParentIs front (c ∷ name) parent = (n : ℕ) × IsFirstNamed (raw_names front)
 abbrev pub IsParent : List RawVersion → List ℕ → Option ℕ → List ℕ → Type 0
 IsParent front text parent rest = (name : List ℕ) × (text ≡ name ++ 59 ∷ rest) × Without 59 name × ParentIs front name parent
 
+-- all bytes are bytes of a name
 abbrev pub AreNameBytes : List ℕ → Type 0
 AreNameBytes [] = Unit {0}
 AreNameBytes (c ∷ name) = IsTrue (is_name_byte c) × AreNameBytes name

@@ -24,9 +24,11 @@ pub data ListFails (text : List ℕ) : ScriptErrorKind → List ℕ → Type 0 w
   -- no `{`
   no_brace : (at : List ℕ) → Skipped text at → NotHere open_word at → ListFails text Syntax at
   -- some turn fails
-  inside : (inside at : List ℕ) (kind : ScriptErrorKind) (entries : List ParsedSymbolMatcher) → Skipped text (open_word ++ inside) → RepeatFails ListTurn (λ front. ListTurnFails) [] entries inside kind at → ListFails text kind at
+  inside : (inside at : List ℕ) (kind : ScriptErrorKind) (entries : List ParsedSymbolMatcher) → Skipped text (open_word ++ inside)
+      → RepeatFails ListTurn (λ front. ListTurnFails) [] entries inside kind at → ListFails text kind at
   -- behind the closing `};` the text does not end
-  behind : (inside after at : List ℕ) (kind : ScriptErrorKind) (entries : List ParsedSymbolMatcher) → Skipped text (open_word ++ inside) → Repeats ListTurn [] entries inside after → EndFails after kind at → ListFails text kind at
+  behind : (inside after at : List ℕ) (kind : ScriptErrorKind) (entries : List ParsedSymbolMatcher) → Skipped text (open_word ++ inside)
+      → Repeats ListTurn [] entries inside after → EndFails after kind at → ListFails text kind at
 
 -- a name or pattern that needs no semicolon: all its faults stand at its first byte
 pub data ForcedTokenFails (text : List ℕ) : ScriptErrorKind → List ℕ → Type 0 where
@@ -35,7 +37,8 @@ pub data ForcedTokenFails (text : List ℕ) : ScriptErrorKind → List ℕ → T
   -- a `}` stands first
   empty : (after : List ℕ) → text ≡ 125 ∷ after → ForcedTokenFails text Syntax text
   -- what stands in front of the first `}` is a pattern that can't be compiled
-  bad_pattern : (bytes after : List ℕ) (kind : ScriptErrorKind) → text ≡ bytes ++ 125 ∷ after → 0 < length bytes → Without 125 bytes → IsBadPattern (trimmed bytes) kind → ForcedTokenFails text kind text
+  bad_pattern : (bytes after : List ℕ) (kind : ScriptErrorKind) → text ≡ bytes ++ 125 ∷ after → 0 < length bytes → Without 125 bytes
+      → IsBadPattern (trimmed bytes) kind → ForcedTokenFails text kind text
 
 -- a name that an option adds
 pub data ForcedFails (text : List ℕ) : ScriptErrorKind → List ℕ → Type 0 where

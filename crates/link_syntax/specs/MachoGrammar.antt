@@ -74,6 +74,7 @@ NameMeans name (Some (NonstarGlob tokens)) = (has_glob_byte name ≡ true) × (h
 NameMeans name (Some (Exact exact)) = (0 < length name) × (has_glob_byte name ≡ false) × (exact ≡ name)
 NameMeans name (Some (EscapedExact exact)) = ⊥
 
+-- a line means what is left of it
 abbrev pub LineMeans : List ℕ → Option SymbolMatcher → Type 0
 LineMeans line m = (name : List ℕ) × IsBare line name × NameMeans name m
 

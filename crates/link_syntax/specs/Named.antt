@@ -73,6 +73,7 @@ abbrev pub version_turn : List RawVersion → List ℕ → Result (Option RawVer
 version_turn front [] = Ok (None, [])
 version_turn front (c ∷ text) = named_at front (c ∷ text) >>= as_item
 
+-- the versions without the text behind them, which is empty
 abbrev pub versions_only : List RawVersion × List ℕ → Result (List RawVersion) Fault
 versions_only x = Ok x.0
 

@@ -16,6 +16,7 @@ use Rattle.link_syntax.specs.Named.{versions_at}
 abbrev pub to_end : {A : Type 0} → A → List ℕ → Result A Fault
 to_end x text = skip text >>= λ rest. if length rest == 0 then Ok x else refuse Syntax rest
 
+-- a body, a semicolon, and the end of the text
 unfoldable pub anonymous : List ℕ → Result RawVersionBody Fault
 anonymous text = body_at text >>= λ b. or_else (strips semicolon_word b.1) (λ rest. to_end b.0 rest) (refuse Syntax b.1)
 

@@ -34,6 +34,7 @@ pub enum Mode {
     Closing,
 }
 
+/// Whether the text begins with the byte.
 pub fn begins_with(text: &[u8], byte: u8) -> bool
     ensures { result ≡ begins_with text.now byte }
 {
