@@ -55,10 +55,6 @@ blanks_each : (bytes : List ℕ) → AreBlanks bytes → Each is_ascii_whitespac
 blanks_each [] b = tt
 blanks_each (c ∷ bytes) b = (b.0, blanks_each bytes b.1)
 
-bare_halts : (bytes : List ℕ) → BeginsBare bytes → Halts is_ascii_whitespace bytes
-bare_halts [] b = tt
-bare_halts (c ∷ bytes) b = b
-
 -- no blank is a `#`
 blank_plain : (c : ℕ) → is_ascii_whitespace c ≡ true → not (is_number_sign c) ≡ true
 blank_plain c is = rw (ne_eqb c 35 (λ same. let k : is_ascii_whitespace 35 ≡ true = subst (λ b. is_ascii_whitespace b ≡ true) same is in cc)) refl

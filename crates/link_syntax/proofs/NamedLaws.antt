@@ -120,13 +120,6 @@ parent_either front text = elim (stops_or_not 59 text) as (λ _. Either (IsParen
   | inr never ↦ inr (Syntax, text, faults.endless never)
 ]
 
-parent_judged : (front : List RawVersion) (text : List ℕ) → Judges (parent_at front text) (IsParentHere front text) (ParentFails front text)
-parent_judged front text = record {
-  values = λ x p. parent_only front text x.0 x.1 p;
-  faults = parent_fails front text;
-  either = parent_either front text;
-}
-
 parent_shorter : (front : List RawVersion) (text : List ℕ) (p : Option ℕ) (after : List ℕ) → IsParent front text p after → length after < length text
 parent_shorter front text p after h = let w : length text ≡ length (h.0 ++ 59 ∷ after) = ap length h.1 in omega (arith, length-append h.0 (59 ∷ after))
 

@@ -13,10 +13,6 @@ use Rattle.link_syntax.specs.Block.{or_else, close_place, semicolon_before}
 use Rattle.link_syntax.specs.Token.{IsToken, after_semicolon}
 use Rattle.link_syntax.specs.Grammar.{NotHere, NoClose}
 
-pub bind_ok : {A B : Type 0} (r : Result A Fault) (f : A → Result B Fault) (y : B) → (r >>= f) ≡ Ok y → (x : A) × (r ≡ Ok x) × (f x ≡ Ok y)
-bind_ok (Ok x) f y e = (x, refl, e)
-bind_ok (Err d) f y e = absurd cc
-
 pub bind_err : {A B : Type 0} (r : Result A Fault) (f : A → Result B Fault) (d : Fault) → r ≡ Err d → (r >>= f) ≡ Err d
 bind_err r f d is = rw is refl
 
@@ -32,24 +28,11 @@ some_same x y e = same_Some x y e
 pub pair_parts : {A B : Type 0} (a c : A) (b d : B) → ◌≡◌ {A = A × B} (a, b) (c, d) → (a ≡ c) × (b ≡ d)
 pair_parts {A} {B} a c b d e = (ap (λ (p : A × B). p.0) e, ap (λ (p : A × B). p.1) e)
 
--- which way a choice went
-pub or_else_found : {A B : Type 0} (o : Option A) (f : A → B) (y z : B) → or_else o f y ≡ z → ((x : A) × (o ≡ Some x) × (f x ≡ z)) ⊎ ((o ≡ None) × (y ≡ z))
-or_else_found None f y z e = inr (refl, e)
-or_else_found (Some x) f y z e = inl (x, refl, e)
-
 pub or_else_some : {A B : Type 0} (o : Option A) (f : A → B) (y : B) (x : A) → o ≡ Some x → or_else o f y ≡ f x
 or_else_some o f y x is = rw is refl
 
 pub or_else_none : {A B : Type 0} (o : Option A) (f : A → B) (y : B) → o ≡ None → or_else o f y ≡ y
 or_else_none o f y is = rw is refl
-
-pub cond_err : {A : Type 0} (b : Bool) (d : Fault) (r : Result A Fault) (y : A) → cond b (Err d) r ≡ Ok y → (b ≡ false) × (r ≡ Ok y)
-cond_err true d r y e = absurd cc
-cond_err false d r y e = (refl, e)
-
-pub cond_found : {A : Type 0} (b : Bool) (x y z : A) → cond b x y ≡ z → ((b ≡ true) × (x ≡ z)) ⊎ ((b ≡ false) × (y ≡ z))
-cond_found true x y z e = inl (refl, e)
-cond_found false x y z e = inr (refl, e)
 
 pub no_test : (b : Bool) → (b ≡ true → ⊥) → b ≡ false
 no_test true e = absurd (e refl)
@@ -62,10 +45,6 @@ is_or false = inr refl
 pub and_true : (a b : Bool) → (a && b) ≡ true → (a ≡ true) × (b ≡ true)
 and_true true b e = (refl, e)
 and_true false b e = absurd cc
-
-and_false : (a b : Bool) → (a && b) ≡ false → a ≡ true → b ≡ true → ⊥
-and_false true b e p q = absurd cc
-and_false false b e p q = absurd cc
 
 pub and_off : (b : Bool) → (b && false) ≡ false
 and_off true = refl
