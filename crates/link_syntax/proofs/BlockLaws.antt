@@ -1,52 +1,78 @@
--- Extern blocks and entries by their grammar.
-use Rattle.std.proofs.Common.{◌≡◌, ◌==◌, ℕ, ◌<◌, ◌≤◌, Bool, cond, List, [], ◌∷◌, ◌++◌, length, Option, Some, None, Result, Ok, refl, sym, ap, subst, ◌∙◌, inl, inr, arith}
+-- Extern blocks and entries by their grammar, with their faults.
+use Rattle.std.proofs.Common.{◌≡◌, ◌==◌, ℕ, ◌<◌, ◌≤◌, Bool, cond, List, [], ◌∷◌, ◌++◌, length, Option, Some, None, Result, Ok, refl, sym, ap, subst, ◌∙◌, ◌⊎◌, inl, inr, arith}
 use Rattle.std.specs.List.{list_any}
 use Rattle.std.proofs.lemmas.List.{length-append}
 use Rattle.link_syntax.specs.declared.fault.Fault.{Fault}
 use Rattle.link_syntax.specs.declared.fault.Language.{Language}
 use Rattle.link_syntax.specs.declared.fault.Language.TheVariants as languages
-use Rattle.link_syntax.specs.declared.fault.ScriptErrorKind.TheVariants.{Syntax, UnsupportedExtern}
+use Rattle.link_syntax.specs.declared.fault.ScriptErrorKind.{ScriptErrorKind}
+use Rattle.link_syntax.specs.declared.fault.ScriptErrorKind.TheVariants.{Syntax, UnexpectedExtern, UnsupportedExtern}
 use Rattle.link_syntax.specs.declared.matcher.SymbolMatcher.{SymbolMatcher}
 use Rattle.link_syntax.specs.declared.matcher.ParsedSymbolMatcher.{ParsedSymbolMatcher}
 use Rattle.link_syntax.specs.declared.matcher.ParsedSymbolMatcher.TheVariants.{Single, Multiple, CxxMatchers}
 use Rattle.link_syntax.specs.Fault.{◌>>=◌, refuse}
-use Rattle.link_syntax.specs.Words.{extern_word, c_word, cxx_word, open_word, close_word}
+use Rattle.link_syntax.specs.Words.{extern_word, word_of, c_word, cxx_word, open_word, close_word}
 use Rattle.link_syntax.specs.Many.{alone}
+use Rattle.link_syntax.specs.Blanks.{Skipped, Unclosed}
 use Rattle.link_syntax.specs.Skip.{skip, strips}
-use Rattle.link_syntax.specs.Token.{token_at, IsToken}
+use Rattle.link_syntax.specs.Token.{token_at}
 use Rattle.link_syntax.specs.Block.{or_else, language_at, extern_text, inner_extern, close_place, semicolon_before, closed_token, block_turn, block_at}
 use Rattle.link_syntax.specs.Entry.{of_language, extern_block, extern_at, entry_at}
-use Rattle.link_syntax.specs.Grammar.{Skipped, Repeats, block_stop, IsBlockToken, BlockTurn, IsExtern, IsEntry}
-use Rattle.link_syntax.proofs.Skipping.{skip_reads, skip_only}
-use Rattle.link_syntax.proofs.Spelled.{token_found, token_only}
-use Rattle.link_syntax.proofs.Places.{bind_ok, bind_is, ok_same, pair_parts, or_else_found, or_else_some, or_else_none, some_same, stripped, strips_is, not_here, strips_none, skipped_shorter, token_shorter, close_found, close_is, before_is}
-use Rattle.link_syntax.proofs.Repeated.{TurnFound, TurnOnly, Shortens, repeats_only, repeats_found, repeats_shorter}
-
-pub skip_is : (text rest : List ℕ) → Skipped text rest → skip text ≡ Ok rest
-skip_is text rest s = skip_only s.0 text rest s.1
+use Rattle.link_syntax.specs.Grammar.{NotHere, NoClose, Repeats, block_stop, BlockTurn, IsExtern, IsEntry}
+use Rattle.link_syntax.specs.Faults as faults
+use Rattle.link_syntax.specs.Faults.{TokenFails, NoLanguage, IsNested, known, unknown, BlockTurnFails, BlockFails, ExternFails, EntryFails}
+use Rattle.link_syntax.proofs.Skipping.{skip_is, skip_fails, skip_or_not}
+use Rattle.link_syntax.proofs.TokenLaws.{token_only, token_fails, token_judged}
+use Rattle.link_syntax.proofs.Places.{bind_is, bind_err, or_else_some, or_else_none, strips_is, strips_none, word_or_not, skipped_shorter, token_shorter, close_is, no_close, close_or_not, before_is}
+use Rattle.link_syntax.proofs.Judged.{Either, Judges}
+use Rattle.link_syntax.proofs.Repeated.{TurnJudged, repeats_judged, repeats_shorter}
 
 -- ---- a name or pattern in a block
 
-stop_is : (text inner after : List ℕ) (n : ℕ) → text ≡ inner ++ 125 ∷ 59 ∷ after → length inner ≡ n → cond (semicolon_before text n) 59 125 ≡ block_stop inner
-stop_is text inner after n whole len =
-    ap (λ (b : Bool). cond b 59 125) (subst (λ (t : List ℕ). semicolon_before t n ≡ list_any (λ c. c == 59) inner) (sym whole) (subst (λ (k : ℕ). semicolon_before (inner ++ 125 ∷ 59 ∷ after) k ≡ list_any (λ c. c == 59) inner) len (before_is inner after)))
+stop_is : (text inner after : List ℕ) → text ≡ inner ++ 125 ∷ 59 ∷ after → cond (semicolon_before text (length inner)) 59 125 ≡ block_stop inner
+stop_is text inner after whole = ap (λ (b : Bool). cond b 59 125) (subst (λ (t : List ℕ). semicolon_before t (length inner) ≡ list_any (λ c. c == 59) inner) (sym whole) (before_is inner after))
 
-closed_found : (text : List ℕ) (n : ℕ) (o : Option SymbolMatcher) (rest : List ℕ) → close_place text ≡ Some n → closed_token text n ≡ Ok (o, rest) → (m : SymbolMatcher) × (o ≡ Some m) × IsBlockToken text m rest
-closed_found text n o rest at e =
-    let c = close_found text n at in
-    let t = bind_ok (token_at (cond (semicolon_before text n) 59 125) text) (λ m. Ok (Some m.0, m.1)) (o, rest) e in
-    let p = pair_parts (Some t.0.0) o t.0.1 rest (ok_same {A = Option SymbolMatcher × List ℕ} (Some t.0.0, t.0.1) (o, rest) t.2) in
-    let stop = stop_is text c.0 c.1 n c.2 c.4 in
-    let token : IsToken (block_stop c.0) text t.0.0 t.0.1 = token_found (block_stop c.0) text t.0.0 t.0.1 (ap (λ s. token_at s text) (sym stop) ∙ t.1) in
-    (t.0.0, sym p.0, record { inner = c.0; after = c.1; whole = c.2; first = c.3; token = subst (λ (r : List ℕ). IsToken (block_stop c.0) text t.0.0 r) p.1 token })
+abbrev as_item : SymbolMatcher × List ℕ → Result (Option SymbolMatcher × List ℕ) Fault
+as_item m = Ok (Some m.0, m.1)
 
-closed_only : (text : List ℕ) (m : SymbolMatcher) (rest : List ℕ) (t : IsBlockToken text m rest) → closed_token text (length t.inner) ≡ Ok (Some m, rest)
-closed_only text m rest t =
-    bind_is (token_at (cond (semicolon_before text (length t.inner)) 59 125) text) (λ m. Ok (Some m.0, m.1)) (m, rest) (Ok (Some m, rest))
-    (ap (λ s. token_at s text) (stop_is text t.inner t.after (length t.inner) t.whole refl) ∙ token_only (block_stop t.inner) text m rest t.token) refl
+closed_is : (text inner after : List ℕ) → text ≡ inner ++ 125 ∷ 59 ∷ after → closed_token text (length inner) ≡ (token_at (block_stop inner) text >>= as_item)
+closed_is text inner after whole = ap (λ s. token_at s text >>= as_item) (stop_is text inner after whole)
 
-block_token_closes : (text : List ℕ) (m : SymbolMatcher) (rest : List ℕ) (t : IsBlockToken text m rest) → close_place text ≡ Some (length t.inner)
-block_token_closes text m rest t = ap close_place t.whole ∙ close_is t.inner t.after t.first
+-- ---- languages
+
+language_is : (text : List ℕ) (l : Language) (rest : List ℕ) → text ≡ word_of l ++ rest → language_at text ≡ Some (l, rest)
+unfolding language_at
+language_is text languages.Cxx rest e = or_else_some (strips cxx_word text) (λ rest. Some (languages.Cxx, rest)) _ rest (strips_is cxx_word text rest e)
+language_is text languages.C rest e =
+    or_else_none (strips cxx_word text) (λ rest. Some (languages.Cxx, rest)) _ (ap (strips cxx_word) e)
+    ∙ or_else_some (strips c_word text) (λ rest. Some (languages.C, rest)) None rest (strips_is c_word text rest e)
+
+language_none : (text : List ℕ) → NoLanguage text → language_at text ≡ None
+unfolding language_at
+language_none text none =
+    or_else_none (strips cxx_word text) (λ rest. Some (languages.Cxx, rest)) _ (strips_none cxx_word text (none languages.Cxx))
+    ∙ or_else_none (strips c_word text) (λ rest. Some (languages.C, rest)) None (strips_none c_word text (none languages.C))
+
+abbrev Named : List ℕ → Type 0
+Named text = (language : Language) × (behind : List ℕ) × (text ≡ word_of language ++ behind)
+
+no_language : (text : List ℕ) → NotHere c_word text → NotHere cxx_word text → NoLanguage text
+no_language text c cxx languages.C = c
+no_language text c cxx languages.Cxx = cxx
+
+language_or_not : (text : List ℕ) → Named text ⊎ NoLanguage text
+language_or_not text = elim (word_or_not cxx_word text) as (λ _. Named text ⊎ NoLanguage text) [
+  | inl cxx ↦ inl (languages.Cxx, cxx.0, cxx.1)
+  | inr no_cxx ↦ elim (word_or_not c_word text) as (λ _. Named text ⊎ NoLanguage text) [
+    | inl c ↦ inl (languages.C, c.0, c.1)
+    | inr no_c ↦ inr (no_language text no_c no_cxx)
+  ]
+]
+
+nested_is : (text : List ℕ) (kind : ScriptErrorKind) → IsNested text kind → inner_extern text ≡ kind
+unfolding inner_extern
+nested_is text kind (known l behind is) = or_else_some (language_at text) (λ x. UnexpectedExtern x.0) _ (l, behind) (language_is text l behind is)
+nested_is text kind (unknown none) = or_else_none (language_at text) (λ x. UnexpectedExtern x.0) _ (language_none text none)
 
 -- ---- a turn of a block
 
@@ -57,56 +83,107 @@ inner_turn text =
     (or_else (strips extern_word text) (λ rest. refuse (inner_extern rest) text)
     (or_else (close_place text) (λ place. closed_token text place) (refuse Syntax text)))
 
-inner_found : (front : List SymbolMatcher) (text here : List ℕ) (o : Option SymbolMatcher) (rest : List ℕ) → Skipped text here → inner_turn here ≡ Ok (o, rest) → BlockTurn front text o rest
-inner_found front text here o rest s e =
-    elim (or_else_found (strips close_word here) (λ rest. skip rest >>= λ after. Ok (None, after)) _ (Ok (o, rest)) e) as (λ _. BlockTurn front text o rest) [
-      | inl ends ↦
-          let b = bind_ok (skip ends.0) (λ after. Ok (None, after)) (o, rest) ends.2 in
-          let p = pair_parts None o b.0 rest (ok_same {A = Option SymbolMatcher × List ℕ} (None, b.0) (o, rest) b.2) in
-          subst (λ (q : Option SymbolMatcher). BlockTurn front text q rest) p.0
-          (ends.0, subst (λ (t : List ℕ). Skipped text t) (stripped close_word here ends.0 ends.1) s, subst (λ (r : List ℕ). Skipped ends.0 r) p.1 (skip_reads ends.0 b.0 b.1))
-      | inr more ↦ elim (or_else_found (strips extern_word here) (λ rest. refuse (inner_extern rest) here) _ (Ok (o, rest)) more.1) as (λ _. BlockTurn front text o rest) [
-        | inl nested ↦ absurd (let k = nested.2 in cc)
-        | inr plain ↦ elim (or_else_found (close_place here) (λ place. closed_token here place) _ (Ok (o, rest)) plain.1) as (λ _. BlockTurn front text o rest) [
-          | inl closed ↦
-              let t = closed_found here closed.0 o rest closed.1 closed.2 in
-              subst (λ (q : Option SymbolMatcher). BlockTurn front text q rest) (sym t.1) (here, s, not_here close_word here more.0, not_here extern_word here plain.0, t.2)
-          | inr never ↦ absurd (let k = never.1 in cc)
-        ]
-      ]
-    ]
-
-block_turn_found : TurnFound (alone block_turn) BlockTurn
+turn_is : (text here : List ℕ) (r : Result (Option SymbolMatcher × List ℕ) Fault) → Skipped text here → inner_turn here ≡ r → block_turn text ≡ r
 unfolding block_turn
-block_turn_found front text o rest e =
-    let b = bind_ok (skip text) inner_turn (o, rest) e in
-    inner_found front text b.0 o rest (skip_reads text b.0 b.1) b.2
+turn_is text here r s is = bind_is (skip text) inner_turn here r (skip_is text here s) is
 
-block_turn_only : TurnOnly (alone block_turn) BlockTurn
+turn_unclosed : (text at : List ℕ) → Unclosed text at → block_turn text ≡ refuse Syntax at
 unfolding block_turn
+turn_unclosed text at u = bind_err (skip text) inner_turn (record { left = length at; kind = Syntax }) (skip_fails text at u)
+
+-- where the block goes on
+goes_on : (here : List ℕ) → NotHere close_word here → NotHere extern_word here → inner_turn here ≡ or_else (close_place here) (λ place. closed_token here place) (refuse Syntax here)
+goes_on here unended plain =
+    or_else_none (strips close_word here) (λ rest. skip rest >>= λ after. Ok (None, after)) _ (strips_none close_word here unended)
+    ∙ or_else_none (strips extern_word here) (λ rest. refuse (inner_extern rest) here) _ (strips_none extern_word here plain)
+
+token_here : (here inner after : List ℕ) → NotHere close_word here → NotHere extern_word here → here ≡ inner ++ 125 ∷ 59 ∷ after → NoClose inner → inner_turn here ≡ (token_at (block_stop inner) here >>= as_item)
+token_here here inner after unended plain whole first =
+    goes_on here unended plain
+    ∙ or_else_some (close_place here) (λ place. closed_token here place) _ (length inner) (ap close_place whole ∙ close_is inner after first)
+    ∙ closed_is here inner after whole
+
+block_turn_only : (front : List SymbolMatcher) (text : List ℕ) (o : Option SymbolMatcher) (rest : List ℕ) → BlockTurn front text o rest → block_turn text ≡ Ok (o, rest)
 block_turn_only front text None rest t =
-    bind_is (skip text) inner_turn (close_word ++ t.0) (Ok (None, rest)) (skip_is text (close_word ++ t.0) t.1)
-    (bind_is (skip t.0) (λ after. Ok (None, after)) rest (Ok (None, rest)) (skip_is t.0 rest t.2) refl)
+    turn_is text (close_word ++ t.0) (Ok (None, rest)) t.1 (bind_is (skip t.0) (λ after. Ok (None, after)) rest (Ok (None, rest)) (skip_is t.0 rest t.2) refl)
 block_turn_only front text (Some m) rest t =
-    bind_is (skip text) inner_turn t.0 (Ok (Some m, rest)) (skip_is text t.0 t.1)
-    (or_else_none (strips close_word t.0) (λ rest. skip rest >>= λ after. Ok (None, after)) _ (strips_none close_word t.0 t.2)
-    ∙ or_else_none (strips extern_word t.0) (λ rest. refuse (inner_extern rest) t.0) _ (strips_none extern_word t.0 t.3)
-    ∙ or_else_some (close_place t.0) (λ place. closed_token t.0 place) _ (length t.4.inner) (block_token_closes t.0 m rest t.4)
-    ∙ closed_only t.0 m rest t.4)
+    turn_is text t.0 (Ok (Some m, rest)) t.1
+    (token_here t.0 t.4.inner t.4.after t.2 t.3 t.4.whole t.4.first
+    ∙ bind_is (token_at (block_stop t.4.inner) t.0) as_item (m, rest) (Ok (Some m, rest)) (token_only (block_stop t.4.inner) t.0 m rest t.4.token) refl)
 
-block_turn_shortens : Shortens BlockTurn
+open_of : (text : List ℕ) → NoClose text → NotHere close_word text
+open_of text free rest is = let k : NoClose (close_word ++ rest) = subst NoClose is free in k.0 (refl, refl)
+
+block_turn_fails : (text : List ℕ) (kind : ScriptErrorKind) (at : List ℕ) → BlockTurnFails text kind at → block_turn text ≡ refuse kind at
+block_turn_fails text kind at (faults.comment at' u) = turn_unclosed text at u
+block_turn_fails text kind at (faults.comment_behind after at' s u) =
+    turn_is text (close_word ++ after) (refuse Syntax at) s (bind_err (skip after) (λ after. Ok (None, after)) (record { left = length at; kind = Syntax }) (skip_fails after at u))
+block_turn_fails text kind at (faults.nested rest kind' s nested) = turn_is text (extern_word ++ rest) (refuse kind at) s (ap (λ k. refuse k (extern_word ++ rest)) (nested_is rest kind nested))
+block_turn_fails text kind at (faults.endless at' s plain never) =
+    turn_is text at (refuse Syntax at) s (goes_on at (open_of at never) plain ∙ or_else_none (close_place at) (λ place. closed_token at place) _ (no_close at never))
+block_turn_fails text kind at (faults.token here inner after at' kind' s unended plain whole first bad) =
+    turn_is text here (refuse kind at) s
+    (token_here here inner after unended plain whole first
+    ∙ bind_err (token_at (block_stop inner) here) as_item (record { left = length at; kind = kind }) (token_fails (block_stop inner) here kind at bad))
+
+abbrev IsTurn : List SymbolMatcher → List ℕ → Option SymbolMatcher × List ℕ → Type 0
+IsTurn front text t = BlockTurn front text t.0 t.1
+
+close_either : (front : List SymbolMatcher) (text after : List ℕ) → Skipped text (close_word ++ after) → Either (IsTurn front text) (BlockTurnFails text)
+close_either front text after s = elim (skip_or_not after) as (λ _. Either (IsTurn front text) (BlockTurnFails text)) [
+  | inl b ↦ inl ((None, b.0), (after, s, b.1))
+  | inr u ↦ inr (Syntax, u.0, faults.comment_behind after u.0 s u.1)
+]
+
+nested_either : (front : List SymbolMatcher) (text rest : List ℕ) → Skipped text (extern_word ++ rest) → Either (IsTurn front text) (BlockTurnFails text)
+nested_either front text rest s = elim (language_or_not rest) as (λ _. Either (IsTurn front text) (BlockTurnFails text)) [
+  | inl l ↦ inr (UnexpectedExtern l.0, extern_word ++ rest, faults.nested rest (UnexpectedExtern l.0) s (known l.0 l.1 l.2))
+  | inr none ↦ inr (UnsupportedExtern (extern_text rest), extern_word ++ rest, faults.nested rest (UnsupportedExtern (extern_text rest)) s (unknown none))
+]
+
+token_either : (front : List SymbolMatcher) (text here inner after : List ℕ) → Skipped text here → NotHere close_word here → NotHere extern_word here → here ≡ inner ++ 125 ∷ 59 ∷ after → NoClose inner → Either (IsTurn front text) (BlockTurnFails text)
+token_either front text here inner after s unended plain whole first = elim ((token_judged (block_stop inner) here).either) as (λ _. Either (IsTurn front text) (BlockTurnFails text)) [
+  | inl t ↦ inl ((Some t.0.0, t.0.1), (here, s, unended, plain, record { inner = inner; after = after; whole = whole; first = first; token = t.1 }))
+  | inr f ↦ inr (f.0, f.1, faults.token here inner after f.1 f.0 s unended plain whole first f.2)
+]
+
+here_either : (front : List SymbolMatcher) (text here : List ℕ) → Skipped text here → Either (IsTurn front text) (BlockTurnFails text)
+here_either front text here s = elim (word_or_not close_word here) as (λ _. Either (IsTurn front text) (BlockTurnFails text)) [
+  | inl ends ↦ close_either front text ends.0 (subst (λ (t : List ℕ). Skipped text t) ends.1 s)
+  | inr unended ↦ elim (word_or_not extern_word here) as (λ _. Either (IsTurn front text) (BlockTurnFails text)) [
+    | inl nested ↦ nested_either front text nested.0 (subst (λ (t : List ℕ). Skipped text t) nested.1 s)
+    | inr plain ↦ elim (close_or_not here) as (λ _. Either (IsTurn front text) (BlockTurnFails text)) [
+      | inl c ↦ token_either front text here c.0 c.1 s unended plain c.2 c.3
+      | inr never ↦ inr (Syntax, here, faults.endless here s plain never)
+    ]
+  ]
+]
+
+turn_either : (front : List SymbolMatcher) (text : List ℕ) → Either (IsTurn front text) (BlockTurnFails text)
+turn_either front text = elim (skip_or_not text) as (λ _. Either (IsTurn front text) (BlockTurnFails text)) [
+  | inl s ↦ here_either front text s.0 s.1
+  | inr u ↦ inr (Syntax, u.0, faults.comment u.0 u.1)
+]
+
+block_turn_shortens : (front : List SymbolMatcher) (text : List ℕ) (m : SymbolMatcher) (after : List ℕ) → BlockTurn front text (Some m) after → length after < length text
 block_turn_shortens front text m after t = let s = skipped_shorter text t.0 t.1 in let k = token_shorter t.4.token in omega arith
+
+block_turn_judged : TurnJudged (alone block_turn) BlockTurn (λ front. BlockTurnFails)
+block_turn_judged = record {
+  judged = λ front text. record {
+    values = λ t said. block_turn_only front text t.0 t.1 said;
+    faults = block_turn_fails text;
+    either = turn_either front text;
+  };
+  shortens = block_turn_shortens;
+}
 
 block_turn_ends : (front : List SymbolMatcher) (text after : List ℕ) → BlockTurn front text None after → length after ≤ length text
 block_turn_ends front text after t = let s = skipped_shorter text (close_word ++ t.0) t.1 in let k = skipped_shorter t.0 after t.2 in omega arith
 
-block_found : (text : List ℕ) (ms : List SymbolMatcher) (rest : List ℕ) → block_at text ≡ Ok (ms, rest) → Repeats BlockTurn [] ms text rest
+block_judged : (text : List ℕ) → Judges (block_at text) (λ t. Repeats BlockTurn [] t.0 text t.1) (BlockFails text)
 unfolding block_at
-block_found text ms rest e = repeats_found (alone block_turn) BlockTurn block_turn_found block_turn_shortens ms text rest e
-
-block_only : (text : List ℕ) (ms : List SymbolMatcher) (rest : List ℕ) → Repeats BlockTurn [] ms text rest → block_at text ≡ Ok (ms, rest)
-unfolding block_at
-block_only text ms rest r = repeats_only (alone block_turn) BlockTurn block_turn_only block_turn_shortens ms [] text rest r
+block_judged text = repeats_judged (alone block_turn) BlockTurn (λ front. BlockTurnFails) block_turn_judged text
 
 -- ---- an extern block
 
@@ -114,7 +191,7 @@ extern_shorter : (language : List ℕ) (ms : List SymbolMatcher) (text rest : Li
 extern_shorter language ms text rest x =
     let w : length text ≡ length (extern_word ++ (language ++ x.0)) = ap length x.2 in
     let s = skipped_shorter x.0 (open_word ++ x.1) x.3 in
-    let r = repeats_shorter BlockTurn block_turn_shortens block_turn_ends ms [] x.1 rest x.4 in
+    let r = repeats_shorter (alone block_turn) BlockTurn (λ front. BlockTurnFails) block_turn_judged block_turn_ends ms [] x.1 rest x.4 in
     omega (arith, length-append language x.0)
 
 pub entry_shorter : (text : List ℕ) (e : ParsedSymbolMatcher) (rest : List ℕ) → IsEntry text e rest → length rest < length text
@@ -122,84 +199,129 @@ entry_shorter text (Single m) rest x = token_shorter x.1
 entry_shorter text (Multiple ms) rest x = extern_shorter c_word ms text rest x
 entry_shorter text (CxxMatchers ms) rest x = extern_shorter cxx_word ms text rest x
 
-abbrev word_of : Language → List ℕ
-word_of languages.C = c_word
-word_of languages.Cxx = cxx_word
+abbrev as_block : Language → List SymbolMatcher × List ℕ → Result (ParsedSymbolMatcher × List ℕ) Fault
+as_block l ms = Ok (of_language l ms.0, ms.1)
 
-language_found : (text : List ℕ) (l : Language) (rest : List ℕ) → language_at text ≡ Some (l, rest) → text ≡ word_of l ++ rest
-unfolding language_at
-language_found text l rest e =
-    elim (or_else_found (strips cxx_word text) (λ rest. Some (languages.Cxx, rest)) _ (Some (l, rest)) e) as (λ _. text ≡ word_of l ++ rest) [
-      | inl x ↦
-          let p = pair_parts languages.Cxx l x.0 rest (some_same (languages.Cxx, x.0) (l, rest) x.2) in
-          stripped cxx_word text x.0 x.1 ∙ ap (λ (t : List ℕ). cxx_word ++ t) p.1 ∙ ap (λ (k : Language). word_of k ++ rest) p.0
-      | inr n ↦ elim (or_else_found (strips c_word text) (λ rest. Some (languages.C, rest)) None (Some (l, rest)) n.1) as (λ _. text ≡ word_of l ++ rest) [
-        | inl x ↦
-            let p = pair_parts languages.C l x.0 rest (some_same (languages.C, x.0) (l, rest) x.2) in
-            stripped c_word text x.0 x.1 ∙ ap (λ (t : List ℕ). c_word ++ t) p.1 ∙ ap (λ (k : Language). word_of k ++ rest) p.0
-        | inr never ↦ absurd (let k = never.1 in cc)
-      ]
-    ]
-
-language_is : (text : List ℕ) (l : Language) (rest : List ℕ) → text ≡ word_of l ++ rest → language_at text ≡ Some (l, rest)
-unfolding language_at
-language_is text languages.Cxx rest e = or_else_some (strips cxx_word text) (λ rest. Some (languages.Cxx, rest)) _ rest (strips_is cxx_word text rest e)
-language_is text languages.C rest e =
-    or_else_none (strips cxx_word text) (λ rest. Some (languages.Cxx, rest)) _ (ap (strips cxx_word) e)
-    ∙ or_else_some (strips c_word text) (λ rest. Some (languages.C, rest)) None rest (strips_is c_word text rest e)
-
+-- behind the language of a block
 abbrev inside_block : Language → List ℕ → Result (ParsedSymbolMatcher × List ℕ) Fault
-inside_block l text = or_else (strips open_word text) (λ rest. block_at rest >>= λ ms. Ok (of_language l ms.0, ms.1)) (refuse Syntax text)
+inside_block l text = or_else (strips open_word text) (λ rest. block_at rest >>= as_block l) (refuse Syntax text)
+
+extern_by : (l : Language) (text behind : List ℕ) → text ≡ word_of l ++ behind → extern_at text ≡ (skip behind >>= inside_block l)
+unfolding extern_at
+extern_by l text behind is = or_else_some (language_at text) (λ l. extern_block l.0 l.1) _ (l, behind) (language_is text l behind is)
+
+block_by : (l : Language) (text behind here : List ℕ) (r : Result (ParsedSymbolMatcher × List ℕ) Fault) → text ≡ word_of l ++ behind → Skipped behind here → inside_block l here ≡ r → extern_at text ≡ r
+block_by l text behind here r is s so = extern_by l text behind is ∙ bind_is (skip behind) (inside_block l) here r (skip_is behind here s) so
+
+-- an extern block behind its `extern `, as the entry that it is
+abbrev pub IsBehindExtern : List ℕ → ParsedSymbolMatcher × List ℕ → Type 0
+IsBehindExtern text x = (language : Language) × (ms : List SymbolMatcher) × (behind inside : List ℕ) × (x.0 ≡ of_language language ms) × (text ≡ word_of language ++ behind) × Skipped behind (open_word ++ inside) × Repeats BlockTurn [] ms inside x.1
+
+extern_only : (text : List ℕ) (x : ParsedSymbolMatcher × List ℕ) → IsBehindExtern text x → extern_at text ≡ Ok x
+extern_only text x b =
+    block_by b.0 text b.2 (open_word ++ b.3) (Ok x) b.5 b.6
+    (bind_is (block_at b.3) (as_block b.0) (b.1, x.1) (Ok x) ((block_judged b.3).values (b.1, x.1) b.7) (ap (λ (e : ParsedSymbolMatcher). Ok (e, x.1)) (sym b.4)))
+
+extern_fails : (text : List ℕ) (kind : ScriptErrorKind) (at : List ℕ) → ExternFails text kind at → extern_at text ≡ refuse kind at
+unfolding extern_at
+extern_fails text kind at (faults.unsupported none) = or_else_none (language_at text) (λ l. extern_block l.0 l.1) _ (language_none text none)
+extern_fails text kind at (faults.comment l behind at' is u) = extern_by l text behind is ∙ bind_err (skip behind) (inside_block l) (record { left = length at; kind = Syntax }) (skip_fails behind at u)
+extern_fails text kind at (faults.no_brace l behind at' is s bare) = block_by l text behind at (refuse Syntax at) is s (or_else_none (strips open_word at) (λ rest. block_at rest >>= as_block l) _ (strips_none open_word at bare))
+extern_fails text kind at (faults.inside l behind block at' kind' is s f) =
+    block_by l text behind (open_word ++ block) (refuse kind at) is s (bind_err (block_at block) (as_block l) (record { left = length at; kind = kind }) ((block_judged block).faults kind at f))
+
+inside_either : (text : List ℕ) (l : Language) (behind inside : List ℕ) → text ≡ word_of l ++ behind → Skipped behind (open_word ++ inside) → Either (IsBehindExtern text) (ExternFails text)
+inside_either text l behind inside is s = elim ((block_judged inside).either) as (λ _. Either (IsBehindExtern text) (ExternFails text)) [
+  | inl b ↦ inl ((of_language l b.0.0, b.0.1), (l, b.0.0, behind, inside, refl, is, s, b.1))
+  | inr f ↦ inr (f.0, f.1, faults.inside l behind inside f.1 f.0 is s f.2)
+]
+
+behind_either : (text : List ℕ) (l : Language) (behind here : List ℕ) → text ≡ word_of l ++ behind → Skipped behind here → Either (IsBehindExtern text) (ExternFails text)
+behind_either text l behind here is s = elim (word_or_not open_word here) as (λ _. Either (IsBehindExtern text) (ExternFails text)) [
+  | inl o ↦ inside_either text l behind o.0 is (subst (λ (t : List ℕ). Skipped behind t) o.1 s)
+  | inr bare ↦ inr (Syntax, here, faults.no_brace l behind here is s bare)
+]
+
+named_either : (text : List ℕ) (l : Language) (behind : List ℕ) → text ≡ word_of l ++ behind → Either (IsBehindExtern text) (ExternFails text)
+named_either text l behind is = elim (skip_or_not behind) as (λ _. Either (IsBehindExtern text) (ExternFails text)) [
+  | inl s ↦ behind_either text l behind s.0 is s.1
+  | inr u ↦ inr (Syntax, u.0, faults.comment l behind u.0 is u.1)
+]
+
+extern_either : (text : List ℕ) → Either (IsBehindExtern text) (ExternFails text)
+extern_either text = elim (language_or_not text) as (λ _. Either (IsBehindExtern text) (ExternFails text)) [
+  | inl l ↦ named_either text l.0 l.1 l.2
+  | inr none ↦ inr (UnsupportedExtern (extern_text text), text, faults.unsupported none)
+]
+
+pub extern_judged : (text : List ℕ) → Judges (extern_at text) (IsBehindExtern text) (ExternFails text)
+extern_judged text = record {
+  values = extern_only text;
+  faults = extern_fails text;
+  either = extern_either text;
+}
+
+-- ---- an entry
+
+pub extern_of : (text : List ℕ) (l : Language) (ms : List SymbolMatcher) (rest : List ℕ) → IsExtern (word_of l) ms text rest → (behind : List ℕ) × (text ≡ extern_word ++ behind) × IsBehindExtern behind (of_language l ms, rest)
+extern_of text l ms rest x = (word_of l ++ x.0, x.2, (l, ms, x.0, x.1, refl, refl, x.3, x.4))
 
 extern_entry : (text : List ℕ) (l : Language) (behind inside : List ℕ) (ms : List SymbolMatcher) (rest : List ℕ) → text ≡ extern_word ++ (word_of l ++ behind) → Skipped behind (open_word ++ inside) → Repeats BlockTurn [] ms inside rest → IsEntry text (of_language l ms) rest
 extern_entry text languages.C behind inside ms rest whole s r = (behind, inside, whole, s, r)
 extern_entry text languages.Cxx behind inside ms rest whole s r = (behind, inside, whole, s, r)
 
-extern_found : (text behind : List ℕ) (e : ParsedSymbolMatcher) (rest : List ℕ) → text ≡ extern_word ++ behind → extern_at behind ≡ Ok (e, rest) → IsEntry text e rest
-unfolding extern_at
-extern_found text behind e rest whole is =
-    elim (or_else_found (language_at behind) (λ l. extern_block l.0 l.1) (refuse (UnsupportedExtern (extern_text behind)) behind) (Ok (e, rest)) is) as (λ _. IsEntry text e rest) [
-      | inl x ↦
-          let b = bind_ok (skip x.0.1) (inside_block x.0.0) (e, rest) x.2 in
-          elim (or_else_found (strips open_word b.0) (λ rest. block_at rest >>= λ ms. Ok (of_language x.0.0 ms.0, ms.1)) (refuse Syntax b.0) (Ok (e, rest)) b.2) as (λ _. IsEntry text e rest) [
-            | inl o ↦
-                let c = bind_ok (block_at o.0) (λ ms. Ok (of_language x.0.0 ms.0, ms.1)) (e, rest) o.2 in
-                let p = pair_parts (of_language x.0.0 c.0.0) e c.0.1 rest (ok_same {A = ParsedSymbolMatcher × List ℕ} (of_language x.0.0 c.0.0, c.0.1) (e, rest) c.2) in
-                let word = whole ∙ ap (λ (t : List ℕ). extern_word ++ t) (language_found behind x.0.0 x.0.1 x.1) in
-                let s = subst (λ (t : List ℕ). Skipped x.0.1 t) (stripped open_word b.0 o.0 o.1) (skip_reads x.0.1 b.0 b.1) in
-                subst (λ (d : ParsedSymbolMatcher). IsEntry text d rest) p.0 (extern_entry text x.0.0 x.0.1 o.0 c.0.0 rest word s (subst (λ (r : List ℕ). Repeats BlockTurn [] c.0.0 o.0 r) p.1 (block_found o.0 c.0.0 c.0.1 c.1)))
-            | inr never ↦ absurd (let k = never.1 in cc)
-          ]
-      | inr never ↦ absurd (let k = never.1 in cc)
-    ]
+-- an extern block is an entry
+pub entry_of : (text behind : List ℕ) (x : ParsedSymbolMatcher × List ℕ) → text ≡ extern_word ++ behind → IsBehindExtern behind x → IsEntry text x.0 x.1
+entry_of text behind x whole b =
+    subst (λ (e : ParsedSymbolMatcher). IsEntry text e x.1) (sym b.4) (extern_entry text b.0 b.2 b.3 b.1 x.1 (whole ∙ ap (λ (t : List ℕ). extern_word ++ t) b.5) b.6 b.7)
 
-extern_behind : (l : Language) (ms : List SymbolMatcher) (behind inside rest : List ℕ) → Skipped behind (open_word ++ inside) → Repeats BlockTurn [] ms inside rest → extern_at (word_of l ++ behind) ≡ Ok (of_language l ms, rest)
-unfolding extern_at
-extern_behind l ms behind inside rest s r =
-    or_else_some (language_at (word_of l ++ behind)) (λ l. extern_block l.0 l.1) _ (l, behind) (language_is (word_of l ++ behind) l behind refl)
-    ∙ bind_is (skip behind) (inside_block l) (open_word ++ inside) (Ok (of_language l ms, rest)) (skip_is behind (open_word ++ inside) s)
-    (bind_is (block_at inside) (λ ms. Ok (of_language l ms.0, ms.1)) (ms, rest) (Ok (of_language l ms, rest)) (block_only inside ms rest r) refl)
+abbrev as_entry : SymbolMatcher × List ℕ → Result (ParsedSymbolMatcher × List ℕ) Fault
+as_entry m = Ok (Single m.0, m.1)
 
-extern_only : (l : Language) (ms : List SymbolMatcher) (text rest : List ℕ) → IsExtern (word_of l) ms text rest → entry_at text ≡ Ok (of_language l ms, rest)
+block_here : (text behind : List ℕ) → text ≡ extern_word ++ behind → entry_at text ≡ extern_at behind
 unfolding entry_at
-extern_only l ms text rest x =
-    or_else_some (strips extern_word text) (λ rest. extern_at rest) _ (word_of l ++ x.0) (strips_is extern_word text (word_of l ++ x.0) x.2) ∙ extern_behind l ms x.0 x.1 rest x.3 x.4
+block_here text behind is = or_else_some (strips extern_word text) (λ rest. extern_at rest) _ behind (strips_is extern_word text behind is)
 
-pub entry_found : (text : List ℕ) (e : ParsedSymbolMatcher) (rest : List ℕ) → entry_at text ≡ Ok (e, rest) → IsEntry text e rest
+token_is_here : (text : List ℕ) → NotHere extern_word text → entry_at text ≡ (token_at 59 text >>= as_entry)
 unfolding entry_at
-entry_found text e rest is =
-    elim (or_else_found (strips extern_word text) (λ rest. extern_at rest) (token_at 59 text >>= λ m. Ok (Single m.0, m.1)) (Ok (e, rest)) is) as (λ _. IsEntry text e rest) [
-      | inl x ↦ extern_found text x.0 e rest (stripped extern_word text x.0 x.1) x.2
-      | inr plain ↦
-          let t = bind_ok (token_at 59 text) (λ m. Ok (Single m.0, m.1)) (e, rest) plain.1 in
-          let p = pair_parts (Single t.0.0) e t.0.1 rest (ok_same {A = ParsedSymbolMatcher × List ℕ} (Single t.0.0, t.0.1) (e, rest) t.2) in
-          subst (λ (d : ParsedSymbolMatcher). IsEntry text d rest) p.0 (not_here extern_word text plain.0, subst (λ (r : List ℕ). IsToken 59 text t.0.0 r) p.1 (token_found 59 text t.0.0 t.0.1 t.1))
-    ]
+token_is_here text plain = or_else_none (strips extern_word text) (λ rest. extern_at rest) _ (strips_none extern_word text plain)
 
-pub entry_only : (text : List ℕ) (e : ParsedSymbolMatcher) (rest : List ℕ) → IsEntry text e rest → entry_at text ≡ Ok (e, rest)
-unfolding entry_at
-entry_only text (Single m) rest x =
-    or_else_none (strips extern_word text) (λ rest. extern_at rest) _ (strips_none extern_word text x.0)
-    ∙ bind_is (token_at 59 text) (λ m. Ok (Single m.0, m.1)) (m, rest) (Ok (Single m, rest)) (token_only 59 text m rest x.1) refl
-entry_only text (Multiple ms) rest x = extern_only languages.C ms text rest x
-entry_only text (CxxMatchers ms) rest x = extern_only languages.Cxx ms text rest x
+block_only : (text : List ℕ) (l : Language) (ms : List SymbolMatcher) (rest : List ℕ) → IsExtern (word_of l) ms text rest → entry_at text ≡ Ok (of_language l ms, rest)
+block_only text l ms rest x = let b = extern_of text l ms rest x in block_here text b.0 b.1 ∙ extern_only b.0 (of_language l ms, rest) b.2
+
+entry_only : (text : List ℕ) (e : ParsedSymbolMatcher) (rest : List ℕ) → IsEntry text e rest → entry_at text ≡ Ok (e, rest)
+entry_only text (Single m) rest x = token_is_here text x.0 ∙ bind_is (token_at 59 text) as_entry (m, rest) (Ok (Single m, rest)) (token_only 59 text m rest x.1) refl
+entry_only text (Multiple ms) rest x = block_only text languages.C ms rest x
+entry_only text (CxxMatchers ms) rest x = block_only text languages.Cxx ms rest x
+
+entry_fails : (text : List ℕ) (kind : ScriptErrorKind) (at : List ℕ) → EntryFails text kind at → entry_at text ≡ refuse kind at
+entry_fails text kind at (faults.block rest at' kind' is f) = block_here text rest is ∙ extern_fails rest kind at f
+entry_fails text kind at (faults.token at' kind' plain f) = token_is_here text plain ∙ bind_err (token_at 59 text) as_entry (record { left = length at; kind = kind }) (token_fails 59 text kind at f)
+
+abbrev IsEntryHere : List ℕ → ParsedSymbolMatcher × List ℕ → Type 0
+IsEntryHere text x = IsEntry text x.0 x.1
+
+block_either : (text behind : List ℕ) → text ≡ extern_word ++ behind → Either (IsEntryHere text) (EntryFails text)
+block_either text behind is = elim (extern_either behind) as (λ _. Either (IsEntryHere text) (EntryFails text)) [
+  | inl b ↦ inl (b.0, entry_of text behind b.0 is b.1)
+  | inr f ↦ inr (f.0, f.1, faults.block behind f.1 f.0 is f.2)
+]
+
+plain_either : (text : List ℕ) → NotHere extern_word text → Either (IsEntryHere text) (EntryFails text)
+plain_either text plain = elim ((token_judged 59 text).either) as (λ _. Either (IsEntryHere text) (EntryFails text)) [
+  | inl t ↦ inl ((Single t.0.0, t.0.1), (plain, t.1))
+  | inr f ↦ inr (f.0, f.1, faults.token f.1 f.0 plain f.2)
+]
+
+entry_either : (text : List ℕ) → Either (IsEntryHere text) (EntryFails text)
+entry_either text = elim (word_or_not extern_word text) as (λ _. Either (IsEntryHere text) (EntryFails text)) [
+  | inl x ↦ block_either text x.0 x.1
+  | inr plain ↦ plain_either text plain
+]
+
+pub entry_judged : (text : List ℕ) → Judges (entry_at text) (λ x. IsEntry text x.0 x.1) (EntryFails text)
+entry_judged text = record {
+  values = λ x e. entry_only text x.0 x.1 e;
+  faults = entry_fails text;
+  either = entry_either text;
+}

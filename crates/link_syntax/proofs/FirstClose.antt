@@ -3,7 +3,7 @@ use Rattle.std.proofs.Common.{◌≡◌, ℕ, suc, ◌-◌, ◌≤◌, ◌==◌,
 use Rattle.std.specs.Option.{option_map}
 use Rattle.std.proofs.lemmas.Option.{same_Some}
 use Rattle.link_syntax.specs.declared.matcher.SymbolMatcher.{SymbolMatcher}
-use Rattle.link_syntax.specs.Blanks.{Piece, blank, line, block, Skips}
+use Rattle.link_syntax.specs.Blanks.{Piece, blank, line, block, InFront, Skipped}
 use Rattle.link_syntax.specs.Token.{IsToken}
 use Rattle.link_syntax.specs.Block.{is_close, close_place, StillFirst}
 
@@ -33,13 +33,17 @@ past_bytes known (c ∷ front) rest first = past_bytes known front rest (past_by
 past_front : (known : Option ℕ) (text front rest : List ℕ) → text ≡ front ++ rest → StillFirst known text → StillFirst known rest
 past_front known text front rest whole first = past_bytes known front rest (subst (λ t. StillFirst known t) whole first)
 
+-- behind pieces of it
+past_pieces : (known : Option ℕ) (pieces : List Piece) (text rest : List ℕ) → InFront pieces text rest → StillFirst known text → StillFirst known rest
+past_pieces known [] text rest s first = subst (λ t. StillFirst known t) s first
+past_pieces known (blank c ∷ pieces) text rest s first = past_pieces known pieces s.0 rest s.3 (past_front known text (c ∷ []) s.0 s.1 first)
+past_pieces known (line bytes ∷ pieces) text rest s first = past_pieces known pieces s.0 rest s.4 (past_front known text (35 ∷ bytes) s.0 s.1 first)
+past_pieces known (block bytes ∷ pieces) text rest s first =
+    past_pieces known pieces s.0 rest s.3 (past_bytes known (42 ∷ 47 ∷ []) s.0 (past_front known text (47 ∷ 42 ∷ bytes) (42 ∷ 47 ∷ s.0) s.1 first))
+
 -- behind blanks and comments
-pub past_skipped : (known : Option ℕ) (pieces : List Piece) (text rest : List ℕ) → Skips pieces text rest → StillFirst known text → StillFirst known rest
-past_skipped known [] text rest s first = subst (λ t. StillFirst known t) s.0 first
-past_skipped known (blank c ∷ pieces) text rest s first = past_skipped known pieces s.0 rest s.3 (past_front known text (c ∷ []) s.0 s.1 first)
-past_skipped known (line bytes ∷ pieces) text rest s first = past_skipped known pieces s.0 rest s.4 (past_front known text (35 ∷ bytes) s.0 s.1 first)
-past_skipped known (block bytes ∷ pieces) text rest s first =
-    past_skipped known pieces s.0 rest s.3 (past_bytes known (42 ∷ 47 ∷ []) s.0 (past_front known text (47 ∷ 42 ∷ bytes) (42 ∷ 47 ∷ s.0) s.1 first))
+pub past_skipped : (known : Option ℕ) (text rest : List ℕ) → Skipped text rest → StillFirst known text → StillFirst known rest
+past_skipped known text rest s first = past_pieces known s.0 text rest s.1.0 first
 
 -- behind a semicolon that may stand there
 past_semicolon : (known : Option ℕ) (c : ℕ) (rest : List ℕ) (b : Bool) → StillFirst known (c ∷ rest) → StillFirst known (cond b rest (c ∷ rest))

@@ -1,16 +1,14 @@
 -- Reading a text line by line.
-use Rattle.std.proofs.Common.{◌≡◌, ◌≤◌, ◌+◌, ℕ, zero, suc, ◌==◌, Bool, true, false, List, [], ◌∷◌, ◌++◌, length, take, drop, Option, Some, None, Result, Ok, Err, refl, sym, ap, subst, ◌∙◌, inl, inr, ◌⊎◌, arith, append_assoc, length-drop, length-take}
+use Rattle.std.proofs.Common.{◌≡◌, ◌≤◌, ◌+◌, ℕ, zero, suc, ◌==◌, Bool, true, false, List, [], ◌∷◌, ◌++◌, length, take, drop, Some, None, Result, Ok, Err, refl, sym, ap, subst, ◌∙◌, inl, inr, ◌⊎◌, arith, length-drop, length-take}
 use Rattle.std.specs.Prelude.{position}
-use Rattle.std.specs.List.{position_from, position_or_len, before_first, prefix_len}
-use Rattle.std.proofs.lemmas.List.{append-nil, take_all}
+use Rattle.std.specs.List.{position_from, position_or_len, prefix_len}
+use Rattle.std.proofs.lemmas.List.{take_all}
 use Rattle.std.proofs.lemmas.Option.{same_Some}
 use Rattle.std.proofs.lemmas.Iterator.Adapters.{position_from-zero}
 use Rattle.link_syntax.specs.declared.fault.Fault.{Fault}
-use Rattle.link_syntax.specs.declared.fault.ReadError.{ReadError}
-use Rattle.link_syntax.specs.declared.fault.ReadError.TheVariants as errors
 use Rattle.link_syntax.specs.declared.matcher.SymbolMatcher.{SymbolMatcher}
-use Rattle.link_syntax.specs.Fault.{◌>>=◌, Fails}
-use Rattle.link_syntax.specs.MachoList.{is_lf, after_each_line, line_starts, starts_of, IsLineOf, line_matcher, lines_of, with_line, macho_list}
+use Rattle.link_syntax.specs.Fault.{◌>>=◌}
+use Rattle.link_syntax.specs.MachoList.{is_lf, after_each_line, line_starts, IsLineOf, lines_of, macho_list}
 
 is_or : (b : Bool) → (b ≡ true) ⊎ (b ≡ false)
 is_or true = inl refl
@@ -105,27 +103,6 @@ with_none (Err f) = refl
 pub begin_lines : (text : List ℕ) → with_rest [] (lines_of (line_starts text)) ≡ macho_list text
 unfolding macho_list
 begin_lines text = with_none (lines_of (line_starts text))
-
-pub end_lines : (done : List SymbolMatcher) → with_rest done (lines_of []) ≡ Ok done
-end_lines done = ap (λ (ms : List SymbolMatcher). Ok ms) (append-nil done)
-
-line_step : (done : List SymbolMatcher) (m : Option SymbolMatcher) (r : Result (List SymbolMatcher) Fault) → with_rest done (r >>= λ ms. Ok (with_line m ms)) ≡ with_rest (done ++ with_line m []) r
-line_step done m (Err f) = refl
-line_step done None (Ok ms) = rw (append-nil done) refl
-line_step done (Some x) (Ok ms) = ap (λ (ms : List SymbolMatcher). Ok ms) (sym (append_assoc done (x ∷ []) ms))
-
--- one line more is read
-pub next_line : (done : List SymbolMatcher) (start line : List ℕ) (after : Option (List ℕ)) (m : Option SymbolMatcher) → IsLineOf start line after → line_matcher (length start) line ≡ Ok m
-    → with_rest done (lines_of (line_starts start)) ≡ with_rest (done ++ with_line m []) (lines_of (starts_of after))
-next_line done start line after m is e =
-    let read : line_matcher (length start) (before_first is_lf start) ≡ Ok m = ap (line_matcher (length start)) (sym is.first) ∙ e in
-    rw (read, is.others) (line_step done m (lines_of (after_each_line start)))
-
-pub line_fails : (e : ReadError) (done : List SymbolMatcher) (start line : List ℕ) (after : Option (List ℕ)) → IsLineOf start line after → Fails e (line_matcher (length start) line) → Fails e (with_rest done (lines_of (line_starts start)))
-line_fails errors.Memory done start line after is f = tt
-line_fails (errors.Fault k) done start line after is f =
-    let read : line_matcher (length start) (before_first is_lf start) ≡ Err k = ap (line_matcher (length start)) (sym is.first) ∙ f in
-    rw read refl
 
 prefix_short : (p : ℕ → Bool) (bytes : List ℕ) → prefix_len p bytes ≤ length bytes
 prefix_short p [] = omega arith

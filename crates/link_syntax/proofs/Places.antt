@@ -2,21 +2,19 @@
 use Rattle.std.proofs.Common.{◌≡◌, ℕ, suc, ◌+◌, ◌<◌, ◌≤◌, ◌==◌, Bool, true, false, cond, List, [], ◌∷◌, ◌++◌, length, Option, Some, None, Result, Ok, Err, refl, ap, ◌∙◌, ◌⊎◌, inl, inr, arith}
 use Rattle.std.specs.Prelude.{◌&&◌, not, nat_lt}
 use Rattle.std.specs.List.{list_any, prefix_len}
-use Rattle.std.specs.Option.{option_map}
 use Rattle.std.proofs.lemmas.Bool.{eqb-true, eq-eqb, lt-ltb, le-ltb}
 use Rattle.std.proofs.lemmas.Option.{same_Some}
 use Rattle.std.proofs.lemmas.List.{length-append}
 use Rattle.link_syntax.specs.declared.fault.Fault.{Fault}
 use Rattle.link_syntax.specs.Fault.{◌>>=◌}
-use Rattle.link_syntax.specs.Blanks.{Piece, blank, line, block, Skips}
+use Rattle.link_syntax.specs.Blanks.{Piece, blank, line, block, InFront, Skipped}
 use Rattle.link_syntax.specs.Skip.{strips, begins_with}
-use Rattle.link_syntax.specs.Block.{or_else, is_close, close_place, semicolon_before}
+use Rattle.link_syntax.specs.Block.{or_else, close_place, semicolon_before}
 use Rattle.link_syntax.specs.Token.{IsToken, after_semicolon}
-use Rattle.link_syntax.specs.Grammar.{Skipped, NotHere, NoClose}
+use Rattle.link_syntax.specs.Grammar.{NotHere, NoClose}
 
-pub bind_ok : {A B : Type 0} (r : Result A Fault) (f : A → Result B Fault) (y : B) → (r >>= f) ≡ Ok y → (x : A) × (r ≡ Ok x) × (f x ≡ Ok y)
-bind_ok (Ok x) f y e = (x, refl, e)
-bind_ok (Err d) f y e = absurd cc
+pub bind_err : {A B : Type 0} (r : Result A Fault) (f : A → Result B Fault) (d : Fault) → r ≡ Err d → (r >>= f) ≡ Err d
+bind_err r f d is = rw is refl
 
 pub bind_is : {A B : Type 0} (r : Result A Fault) (f : A → Result B Fault) (x : A) (y : Result B Fault) → r ≡ Ok x → f x ≡ y → (r >>= f) ≡ y
 bind_is r f x y is e = rw is e
@@ -30,38 +28,25 @@ some_same x y e = same_Some x y e
 pub pair_parts : {A B : Type 0} (a c : A) (b d : B) → ◌≡◌ {A = A × B} (a, b) (c, d) → (a ≡ c) × (b ≡ d)
 pair_parts {A} {B} a c b d e = (ap (λ (p : A × B). p.0) e, ap (λ (p : A × B). p.1) e)
 
--- which way a choice went
-pub or_else_found : {A B : Type 0} (o : Option A) (f : A → B) (y z : B) → or_else o f y ≡ z → ((x : A) × (o ≡ Some x) × (f x ≡ z)) ⊎ ((o ≡ None) × (y ≡ z))
-or_else_found None f y z e = inr (refl, e)
-or_else_found (Some x) f y z e = inl (x, refl, e)
-
 pub or_else_some : {A B : Type 0} (o : Option A) (f : A → B) (y : B) (x : A) → o ≡ Some x → or_else o f y ≡ f x
 or_else_some o f y x is = rw is refl
 
 pub or_else_none : {A B : Type 0} (o : Option A) (f : A → B) (y : B) → o ≡ None → or_else o f y ≡ y
 or_else_none o f y is = rw is refl
 
-pub cond_err : {A : Type 0} (b : Bool) (d : Fault) (r : Result A Fault) (y : A) → cond b (Err d) r ≡ Ok y → (b ≡ false) × (r ≡ Ok y)
-cond_err true d r y e = absurd cc
-cond_err false d r y e = (refl, e)
-
-pub cond_found : {A : Type 0} (b : Bool) (x y z : A) → cond b x y ≡ z → ((b ≡ true) × (x ≡ z)) ⊎ ((b ≡ false) × (y ≡ z))
-cond_found true x y z e = inl (refl, e)
-cond_found false x y z e = inr (refl, e)
-
 pub no_test : (b : Bool) → (b ≡ true → ⊥) → b ≡ false
 no_test true e = absurd (e refl)
 no_test false e = refl
 
-and_true : (a b : Bool) → (a && b) ≡ true → (a ≡ true) × (b ≡ true)
+pub is_or : (b : Bool) → (b ≡ true) ⊎ (b ≡ false)
+is_or true = inl refl
+is_or false = inr refl
+
+pub and_true : (a b : Bool) → (a && b) ≡ true → (a ≡ true) × (b ≡ true)
 and_true true b e = (refl, e)
 and_true false b e = absurd cc
 
-and_false : (a b : Bool) → (a && b) ≡ false → a ≡ true → b ≡ true → ⊥
-and_false true b e p q = absurd cc
-and_false false b e p q = absurd cc
-
-and_off : (b : Bool) → (b && false) ≡ false
+pub and_off : (b : Bool) → (b && false) ≡ false
 and_off true = refl
 and_off false = refl
 
@@ -93,6 +78,14 @@ none_of prefix text (Some rest) is never = absurd (never rest (stripped prefix t
 pub strips_none : (prefix text : List ℕ) → NotHere prefix text → strips prefix text ≡ None
 strips_none prefix text never = none_of prefix text (strips prefix text) refl never
 
+word_by : (prefix text : List ℕ) (o : Option (List ℕ)) → strips prefix text ≡ o → ((rest : List ℕ) × (text ≡ prefix ++ rest)) ⊎ NotHere prefix text
+word_by prefix text None is = inr (not_here prefix text is)
+word_by prefix text (Some rest) is = inl (rest, stripped prefix text rest is)
+
+-- a word stands there or does not
+pub word_or_not : (prefix text : List ℕ) → ((rest : List ℕ) × (text ≡ prefix ++ rest)) ⊎ NotHere prefix text
+word_or_not prefix text = word_by prefix text (strips prefix text) refl
+
 pub begins_cons : (text : List ℕ) (c : ℕ) → begins_with text c ≡ true → (rest : List ℕ) × (text ≡ c ∷ rest)
 begins_cons [] c e = absurd cc
 begins_cons (d ∷ text) c e = (text, ap (λ (b : ℕ). b ∷ text) (eqb-true d c e))
@@ -102,20 +95,20 @@ begins_cons (d ∷ text) c e = (text, ap (λ (b : ℕ). b ∷ text) (eqb-true d 
 length_of : (text rest : List ℕ) → text ≡ rest → length text ≡ length rest
 length_of text rest e = ap length e
 
-skips_shorter : (pieces : List Piece) (text rest : List ℕ) → Skips pieces text rest → length rest ≤ length text
-skips_shorter [] text rest s = let e = length_of text rest s.0 in omega arith
-skips_shorter (blank c ∷ pieces) text rest s = let e = length_of text (c ∷ s.0) s.1 in let k = skips_shorter pieces s.0 rest s.3 in omega arith
-skips_shorter (line bytes ∷ pieces) text rest s =
+front_shorter : (pieces : List Piece) (text rest : List ℕ) → InFront pieces text rest → length rest ≤ length text
+front_shorter [] text rest s = let e = length_of text rest s in omega arith
+front_shorter (blank c ∷ pieces) text rest s = let e = length_of text (c ∷ s.0) s.1 in let k = front_shorter pieces s.0 rest s.3 in omega arith
+front_shorter (line bytes ∷ pieces) text rest s =
     let e = length_of text (35 ∷ (bytes ++ s.0)) s.1 in
-    let k = skips_shorter pieces s.0 rest s.4 in
+    let k = front_shorter pieces s.0 rest s.4 in
     omega (arith, length-append bytes s.0)
-skips_shorter (block bytes ∷ pieces) text rest s =
+front_shorter (block bytes ∷ pieces) text rest s =
     let e = length_of text (47 ∷ 42 ∷ (bytes ++ (42 ∷ 47 ∷ s.0))) s.1 in
-    let k = skips_shorter pieces s.0 rest s.3 in
+    let k = front_shorter pieces s.0 rest s.3 in
     omega (arith, length-append bytes (42 ∷ 47 ∷ s.0))
 
 pub skipped_shorter : (text rest : List ℕ) → Skipped text rest → length rest ≤ length text
-skipped_shorter text rest s = skips_shorter s.0 text rest s.1
+skipped_shorter text rest s = front_shorter s.0 text rest s.1.0
 
 after_on : (c : ℕ) (rest : List ℕ) (b : Bool) → length (cond b rest (c ∷ rest)) ≤ suc (length rest)
 after_on c rest true = omega arith
@@ -134,41 +127,40 @@ token_shorter {stop} {text} {m} {rest} t =
 
 -- ---- the next `};`
 
-begins_cons_semicolon : (text : List ℕ) → begins_with text 59 ≡ true → (rest : List ℕ) × (text ≡ 59 ∷ rest)
-begins_cons_semicolon text e = begins_cons text 59 e
-
 -- nothing is closed by one byte more
-still_open : (c : ℕ) (inner rest after : List ℕ) → rest ≡ inner ++ 125 ∷ 59 ∷ after → is_close c rest ≡ false → NoClose inner → NoClose (c ∷ inner)
-still_open c [] rest after is e free = tt
-still_open c (d ∷ inner) rest after is e free =
-    ((λ p. and_false (c == 125) (begins_with rest 59) e (eq-eqb c 125 p.0) (ap (λ (t : List ℕ). begins_with t 59) is ∙ eq-eqb d 59 p.1)), free)
+still_open : (c d : ℕ) (inner rest after : List ℕ) → d ∷ rest ≡ inner ++ 125 ∷ 59 ∷ after → ((c ≡ 125) × (d ≡ 59) → ⊥) → NoClose inner → NoClose (c ∷ inner)
+still_open c d [] rest after is other free = tt
+still_open c d (b ∷ inner) rest after is other free = ((λ p. let same : d ≡ b = cc in other (p.0, same ∙ p.1)), free)
 
-map_suc : (o : Option ℕ) (n : ℕ) → option_map (λ k. suc k) o ≡ Some n → (m : ℕ) × (o ≡ Some m) × (suc m ≡ n)
-map_suc None n e = absurd cc
-map_suc (Some m) n e = (m, refl, same_Some (suc m) n e)
+abbrev pub Closes : List ℕ → Type 0
+Closes text = (inner after : List ℕ) × (text ≡ inner ++ 125 ∷ 59 ∷ after) × NoClose inner
 
-abbrev pub ClosesAt : List ℕ → ℕ → Type 0
-ClosesAt text n = (inner after : List ℕ) × (text ≡ inner ++ 125 ∷ 59 ∷ after) × NoClose inner × (length inner ≡ n)
+close_more : (c d : ℕ) (text : List ℕ) → ((c ≡ 125) × (d ≡ 59) → ⊥) → Closes (d ∷ text) ⊎ NoClose (d ∷ text) → Closes (c ∷ d ∷ text) ⊎ NoClose (c ∷ d ∷ text)
+close_more c d text other (inl k) = inl (c ∷ k.0, k.1, ap (λ (t : List ℕ). c ∷ t) k.2, still_open c d k.0 text k.1 k.2 other k.3)
+close_more c d text other (inr o) = inr (other, o)
 
-close_on : (c : ℕ) (rest : List ℕ) (n : ℕ) (b : Bool) → is_close c rest ≡ b → ((m : ℕ) → close_place rest ≡ Some m → ClosesAt rest m) → cond b (Some 0) (option_map (λ k. suc k) (close_place rest)) ≡ Some n → ClosesAt (c ∷ rest) n
-close_on c rest n true is so e =
-    let k = and_true (c == 125) (begins_with rest 59) is in
-    let s = begins_cons rest 59 k.1 in
-    ([], s.0, ap (λ (b : ℕ). b ∷ rest) (eqb-true c 125 k.0) ∙ ap (λ (t : List ℕ). 125 ∷ t) s.1, tt, same_Some 0 n e)
-close_on c rest n false is so e =
-    let m = map_suc (close_place rest) n e in
-    let k = so m.0 m.1 in
-    (c ∷ k.0, k.1, ap (λ (t : List ℕ). c ∷ t) k.2, still_open c k.0 rest k.1 k.2 is k.3, ap (λ i. suc i) k.4 ∙ m.2)
-
-pub close_found : (text : List ℕ) (n : ℕ) → close_place text ≡ Some n → ClosesAt text n
-close_found [] n e = absurd cc
-close_found (c ∷ rest) n e = close_on c rest n (is_close c rest) refl (close_found rest) e
+-- a `};` comes or does not
+pub close_or_not : (text : List ℕ) → Closes text ⊎ NoClose text
+close_or_not [] = inr tt
+close_or_not (c ∷ []) = inr tt
+close_or_not (c ∷ d ∷ text) = elim (is_or (c == 125 && d == 59)) as (λ _. Closes (c ∷ d ∷ text) ⊎ NoClose (c ∷ d ∷ text)) [
+  | inl is ↦
+      let k = and_true (c == 125) (d == 59) is in
+      inl ([], text, ap (λ (b : ℕ). b ∷ d ∷ text) (eqb-true c 125 k.0) ∙ ap (λ (b : ℕ). 125 ∷ b ∷ text) (eqb-true d 59 k.1), tt)
+  | inr other ↦ close_more c d text (λ p. let k : (c == 125 && d == 59) ≡ true = rw (p.0, p.1) refl in cc) (close_or_not (d ∷ text))
+]
 
 pub close_is : (inner after : List ℕ) → NoClose inner → close_place (inner ++ 125 ∷ 59 ∷ after) ≡ Some (length inner)
 close_is [] after free = refl
 close_is (c ∷ []) after free = rw (and_off (c == 125)) refl
 close_is (c ∷ d ∷ inner) after free =
     rw (no_test (c == 125 && d == 59) (λ t. let k = and_true (c == 125) (d == 59) t in free.0 (eqb-true c 125 k.0, eqb-true d 59 k.1)), close_is (d ∷ inner) after free.1) refl
+
+pub no_close : (text : List ℕ) → NoClose text → close_place text ≡ None
+no_close [] free = refl
+no_close (c ∷ []) free = rw (and_off (c == 125)) refl
+no_close (c ∷ d ∷ text) free =
+    rw (no_test (c == 125 && d == 59) (λ t. let k = and_true (c == 125) (d == 59) t in free.0 (eqb-true c 125 k.0, eqb-true d 59 k.1)), no_close (d ∷ text) free.1) refl
 
 -- how far the first semicolon is
 abbrev first_semicolon : List ℕ → ℕ

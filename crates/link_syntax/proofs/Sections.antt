@@ -49,9 +49,6 @@ last_with_entry now e [] = refl
 last_with_entry now e (items.Side t ∷ pieces) = last_with_entry t e pieces
 last_with_entry now e (Entry d ∷ pieces) = last_with_entry now e pieces
 
-pub sorted_none : (text : List ℕ) → Sorted [] [] Global text text
-sorted_none text = ([], record { reads = refl; globals_are = refl; locals_are = refl; now_is = refl })
-
 pub sorted_side : (globals locals : List ParsedSymbolMatcher) (now s : Side) (rest after text : List ℕ) → body_turn rest ≡ Ok (Some (items.Side s), after) → length after < length rest → Sorted globals locals now rest text → Sorted globals locals s after text
 sorted_side globals locals now s rest after text is lt so_far =
     let k = so_far.1 in (

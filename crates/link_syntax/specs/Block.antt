@@ -14,6 +14,7 @@ use Rattle.link_syntax.specs.Skip.{skip, strips, is_blank, begins_with}
 use Rattle.link_syntax.specs.Token.{token_at}
 use Rattle.link_syntax.specs.Many.{many}
 
+-- the choice where there is one, and else the other value
 abbrev pub or_else : {A B : Type 0} → Option A → (A → B) → B → B
 or_else None f y = y
 or_else (Some x) f y = f x
@@ -24,10 +25,11 @@ language_at text =
     or_else (strips cxx_word text) (λ rest. Some (languages.Cxx, rest))
     (or_else (strips c_word text) (λ rest. Some (languages.C, rest)) None)
 
--- up to the first `{`, or all, without the blanks at the end
+-- without the blanks at the end
 abbrev pub without_blanks : List ℕ → List ℕ
 without_blanks bytes = take (length bytes - suffix_len is_blank bytes) bytes
 
+-- the bytes that stand in the place of a language: up to the first `{`, or all, without the blanks at the end
 unfoldable pub extern_text : List ℕ → List ℕ
 extern_text text = without_blanks (take (position_or_len (λ c. c == 123) text) text)
 
@@ -35,6 +37,7 @@ extern_text text = without_blanks (take (position_or_len (λ c. c == 123) text) 
 unfoldable pub inner_extern : List ℕ → ScriptErrorKind
 inner_extern text = or_else (language_at text) (λ x. UnexpectedExtern x.0) (UnsupportedExtern (extern_text text))
 
+-- whether `};` stands here
 abbrev pub is_close : ℕ → List ℕ → Bool
 is_close c after = c == 125 && begins_with after 59
 
@@ -48,9 +51,11 @@ abbrev pub StillFirst : Option ℕ → List ℕ → Type 0
 StillFirst None text = Unit {0}
 StillFirst (Some left) text = left ≤ length text → close_place text ≡ Some (length text - left)
 
+-- whether a semicolon stands in front of this place
 abbrev pub semicolon_before : List ℕ → ℕ → Bool
 semicolon_before text place = or_else (position (λ c. c == 59) text) (λ at. nat_lt at place) false
 
+-- one item more
 abbrev pub item : {A : Type 0} → A × List ℕ → Option A × List ℕ
 item x = (Some x.0, x.1)
 
@@ -65,5 +70,6 @@ block_turn text = skip text >>= λ text.
     (or_else (strips extern_word text) (λ rest. refuse (inner_extern rest) text)
     (or_else (close_place text) (λ place. closed_token text place) (refuse Syntax text)))
 
+-- the matchers of a block, and what follows it
 unfoldable pub block_at : List ℕ → Result (List SymbolMatcher × List ℕ) Fault
 block_at text = many block_turn text

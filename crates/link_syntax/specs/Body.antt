@@ -23,6 +23,7 @@ body_turn text = skip text >>= λ text.
     (or_else (strips local_word text) (λ rest. Ok (Some (items.Side Local), rest))
     (entry_at text >>= λ e. Ok (Some (items.Entry e.0), e.1))))
 
+-- whether the sections are the same
 abbrev pub same_side : Side → Side → Bool
 same_side Global Global = true
 same_side Local Local = true
@@ -34,12 +35,15 @@ entries_of want now [] = []
 entries_of want now (items.Side s ∷ pieces) = entries_of want s pieces
 entries_of want now (items.Entry e ∷ pieces) = if same_side want now then e ∷ entries_of want now pieces else entries_of want now pieces
 
+-- the entries of these pieces by section, global at first
 abbrev pub body_of : List Item → RawVersionBody
 body_of pieces = record { globals = entries_of Global Global pieces; locals = entries_of Local Global pieces }
 
+-- behind the brace of a body
 unfoldable pub pieces_at : List ℕ → Result (RawVersionBody × List ℕ) Fault
 pieces_at text = many body_turn text >>= λ pieces. Ok (body_of pieces.0, pieces.1)
 
+-- a body with its brace
 unfoldable pub body_at : List ℕ → Result (RawVersionBody × List ℕ) Fault
 body_at text = or_else (strips open_word text) (λ rest. pieces_at rest) (refuse Syntax text)
 

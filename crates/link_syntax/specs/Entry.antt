@@ -15,10 +15,12 @@ use Rattle.link_syntax.specs.Skip.{skip, strips}
 use Rattle.link_syntax.specs.Token.{token_at}
 use Rattle.link_syntax.specs.Block.{or_else, language_at, extern_text, block_at}
 
+-- the entry that a block of this language is
 abbrev pub of_language : Language → List SymbolMatcher → ParsedSymbolMatcher
 of_language languages.C ms = Multiple ms
 of_language languages.Cxx ms = CxxMatchers ms
 
+-- behind the language of a block
 abbrev pub extern_block : Language → List ℕ → Result (ParsedSymbolMatcher × List ℕ) Fault
 extern_block language text = skip text >>= λ text.
     or_else (strips open_word text) (λ rest. block_at rest >>= λ ms. Ok (of_language language ms.0, ms.1)) (refuse Syntax text)
@@ -27,6 +29,7 @@ extern_block language text = skip text >>= λ text.
 unfoldable pub extern_at : List ℕ → Result (ParsedSymbolMatcher × List ℕ) Fault
 extern_at text = or_else (language_at text) (λ l. extern_block l.0 l.1) (refuse (UnsupportedExtern (extern_text text)) text)
 
+-- an extern block, or a name or pattern up to a semicolon
 unfoldable pub entry_at : List ℕ → Result (ParsedSymbolMatcher × List ℕ) Fault
 entry_at text = or_else (strips extern_word text) (λ rest. extern_at rest) (token_at 59 text >>= λ m. Ok (Single m.0, m.1))
 

@@ -7,6 +7,7 @@ use Rattle.link_syntax.specs.declared.fault.ScriptErrorKind.{ScriptErrorKind}
 use Rattle.link_syntax.specs.declared.fault.ScriptErrorKind.TheVariants as kinds
 use Rattle.link_syntax.specs.declared.fault.ScriptError.{ScriptError}
 
+-- the name of a language
 abbrev pub language_text : Language → List ℕ
 language_text C = codes "C"
 language_text Cxx = codes "C++"
@@ -15,6 +16,7 @@ language_text Cxx = codes "C++"
 abbrev pub quoted : List ℕ → List ℕ
 quoted text = (34 ∷ []) ++ text ++ (34 ∷ [])
 
+-- what is wrong, in words
 abbrev pub kind_text : ScriptErrorKind → List ℕ
 kind_text kinds.Syntax = codes "Syntax error"
 kind_text kinds.InvalidUtf8String = codes "Invalid utf-8 string"

@@ -57,3 +57,9 @@ Refuses (faults.Text t) text read = (left : ℕ) × (t.at + left ≡ length text
 abbrev pub Answers : {X Y : Type 0} → (X → Y) → List ℕ → Result X ScriptFault → Result Y Fault → Type 0
 Answers view text (Ok x) read = read ≡ Ok (view x)
 Answers view text (Err e) read = Refuses e text read
+
+-- This value is answered, unless memory ran out.
+abbrev pub IsRead : {X : Type 0} → X → Result X ScriptFault → Type 0
+IsRead x (Ok read) = read ≡ x
+IsRead x (Err faults.Memory) = Unit {0}
+IsRead x (Err (faults.Text t)) = ⊥

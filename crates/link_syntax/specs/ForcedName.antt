@@ -17,6 +17,7 @@ abbrev pub forced_until : List ℕ → Option ℕ → Result SymbolMatcher Fault
 forced_until text None = matcher_of (length text) (trimmed text)
 forced_until text (Some end) = if end == 0 then refuse Syntax text else matcher_of (length text) (trimmed (take end text))
 
+-- a name or pattern that needs no semicolon
 unfoldable pub forced_token : List ℕ → Result SymbolMatcher Fault
 forced_token text = forced_until text (position (λ c. c == 125) text)
 

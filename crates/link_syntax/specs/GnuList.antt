@@ -17,6 +17,7 @@ list_turn text = skip text >>= λ text.
     or_else (strips close_word text) (λ rest. Ok (None, rest))
     (entry_at text >>= λ e. Ok (Some e.0, e.1))
 
+-- the entries up to the end of the list, and what follows it
 unfoldable pub gnu_entries : List ℕ → Result (List ParsedSymbolMatcher × List ℕ) Fault
 gnu_entries text = many list_turn text
 

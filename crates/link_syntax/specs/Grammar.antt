@@ -12,15 +12,10 @@ use Rattle.link_syntax.specs.declared.matcher.ParsedSymbolMatcher.TheVariants.{S
 use Rattle.link_syntax.specs.declared.script.RawScript.{RawScript}
 use Rattle.link_syntax.specs.declared.script.RawScript.TheVariants.{Anonymous, Named}
 use Rattle.link_syntax.specs.Words.{extern_word, c_word, cxx_word, global_word, local_word, open_word, brace_word, close_word, semicolon_word}
-use Rattle.link_syntax.specs.Blanks.{Piece, Skips}
+use Rattle.link_syntax.specs.Blanks.{Skipped}
 use Rattle.link_syntax.specs.Token.{IsToken, Without}
 use Rattle.link_syntax.specs.Body.{body_of}
-use Rattle.link_syntax.specs.Named.{is_name_byte}
-use Rattle.link_syntax.specs.Named.{raw_names}
-
--- all blanks and comments that stand there
-abbrev pub Skipped : List ℕ → List ℕ → Type 0
-Skipped text rest = (pieces : List Piece) × Skips pieces text rest
+use Rattle.link_syntax.specs.Named.{is_name_byte, raw_names, most_versions}
 
 -- the text doesn't begin with the word
 abbrev pub NotHere : List ℕ → List ℕ → Type 0
@@ -88,6 +83,7 @@ ParentIs front (c ∷ name) parent = (n : ℕ) × IsFirstNamed (raw_names front)
 abbrev pub IsParent : List RawVersion → List ℕ → Option ℕ → List ℕ → Type 0
 IsParent front text parent rest = (name : List ℕ) × (text ≡ name ++ 59 ∷ rest) × Without 59 name × ParentIs front name parent
 
+-- all bytes are bytes of a name
 abbrev pub AreNameBytes : List ℕ → Type 0
 AreNameBytes [] = Unit {0}
 AreNameBytes (c ∷ name) = IsTrue (is_name_byte c) × AreNameBytes name
@@ -107,7 +103,7 @@ pub record IsNamed (front : List RawVersion) (text : List ℕ) (v : RawVersion) 
   pub some : 0 < length v.name
   pub name : AreNameBytes v.name
   pub ends : EndsName behind
-  pub room : length front ≢ 32766
+  pub room : length front ≢ most_versions
   pub blanks : Skipped behind at_body
   pub body : IsBody at_body v.body at_parent
   pub parent : IsParent front at_parent v.parent_index at_end

@@ -14,4 +14,7 @@ pub mod GnuList
 pub mod ForcedName
 pub mod MachoList
 pub mod Grammar
+pub mod Faults
 pub mod ListGrammar
+pub mod ListFaults
+pub mod MachoGrammar

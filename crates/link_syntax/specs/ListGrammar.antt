@@ -1,13 +1,12 @@
 -- The grammar of GNU export lists, and of names that options add: which entries a text spells.
-use Rattle.std.specs.Prelude.{◌≡◌, ◌↔◌, ◌<◌, ℕ, List, [], ◌∷◌, ◌++◌, length, Option, Some, None, Ok, ◌⊎◌}
+use Rattle.std.specs.Prelude.{◌≡◌, ◌<◌, ℕ, Bool, true, false, List, [], ◌∷◌, ◌++◌, length, Option, Some, None, Ok, ◌⊎◌}
 use Rattle.link_syntax.specs.declared.matcher.SymbolMatcher.{SymbolMatcher}
 use Rattle.link_syntax.specs.declared.matcher.ParsedSymbolMatcher.{ParsedSymbolMatcher}
 use Rattle.link_syntax.specs.declared.matcher.ParsedSymbolMatcher.TheVariants.{Single}
 use Rattle.link_syntax.specs.Words.{extern_word, open_word, close_word}
+use Rattle.link_syntax.specs.Blanks.{Skipped}
 use Rattle.link_syntax.specs.Token.{Without, trimmed, matcher_of}
-use Rattle.link_syntax.specs.Grammar.{Skipped, NotHere, Repeats, IsEntry}
-use Rattle.link_syntax.specs.GnuList.{gnu_list}
-use Rattle.link_syntax.specs.ForcedName.{forced_name}
+use Rattle.link_syntax.specs.Grammar.{NotHere, Repeats, IsEntry}
 
 -- in a list: `};`, or an entry
 abbrev pub ListTurn : List ParsedSymbolMatcher → List ℕ → Option ParsedSymbolMatcher → List ℕ → Type 0
@@ -29,8 +28,7 @@ abbrev pub IsForcedName : List ℕ → ParsedSymbolMatcher → Type 0
 IsForcedName text (Single m) = NotHere extern_word text × IsForcedToken text m
 IsForcedName text block = (rest : List ℕ) × IsEntry text block rest
 
-abbrev pub GnuListIsSpelled : Type 0
-GnuListIsSpelled = (text : List ℕ) (entries : List ParsedSymbolMatcher) → (gnu_list text ≡ Ok entries) ↔ IsExportList text entries
-
-abbrev pub ForcedNameIsSpelled : Type 0
-ForcedNameIsSpelled = (text : List ℕ) (entry : ParsedSymbolMatcher) → (forced_name text ≡ Ok entry) ↔ IsForcedName text entry
+-- what is added to a list, without the semicolon that an entry of a list has, or with it, whatever follows it
+abbrev pub IsAddedEntry : Bool → List ℕ → ParsedSymbolMatcher → Type 0
+IsAddedEntry true text entry = IsForcedName text entry
+IsAddedEntry false text entry = (rest : List ℕ) × IsEntry text entry rest

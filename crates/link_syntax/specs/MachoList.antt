@@ -19,12 +19,15 @@ after_each_line (c ∷ rest) = if c == 10 then rest ∷ after_each_line rest els
 abbrev pub line_starts : List ℕ → List (List ℕ)
 line_starts text = text ∷ after_each_line text
 
+-- LF
 abbrev pub is_lf : ℕ → Bool
 is_lf c = c == 10
 
+-- `#`
 abbrev pub is_number_sign : ℕ → Bool
 is_number_sign c = c == 35
 
+-- `*`, `?` or `[`
 abbrev pub is_glob_byte : ℕ → Bool
 is_glob_byte c = c == 42 || c == 63 || c == 91
 
@@ -51,6 +54,7 @@ unfoldable pub line_matcher : ℕ → List ℕ → Result (Option SymbolMatcher)
 line_matcher left line =
     if length (bare line) == 0 then Ok None else (macho_matcher (left - indent line) (bare line) >>= λ m. Ok (Some m))
 
+-- the matchers of one line more in front
 abbrev pub with_line : Option SymbolMatcher → List SymbolMatcher → List SymbolMatcher
 with_line None matchers = matchers
 with_line (Some m) matchers = m ∷ matchers
@@ -60,6 +64,7 @@ abbrev pub lines_of : List (List ℕ) → Result (List SymbolMatcher) Fault
 lines_of [] = Ok []
 lines_of (start ∷ starts) = line_matcher (length start) (before_first is_lf start) >>= λ m. lines_of starts >>= λ ms. Ok (with_line m ms)
 
+-- the matchers of all lines
 unfoldable pub macho_list : List ℕ → Result (List SymbolMatcher) Fault
 macho_list text = lines_of (line_starts text)
 
@@ -68,6 +73,7 @@ abbrev pub starts_of : Option (List ℕ) → List (List ℕ)
 starts_of None = []
 starts_of (Some text) = line_starts text
 
+-- how many bytes are left, if there is a text
 abbrev pub size_of : Option (List ℕ) → ℕ
 size_of None = 0
 size_of (Some text) = length text

@@ -22,5 +22,6 @@ grow turn front text = grow_by turn (suc (length text)) front text
 abbrev pub alone : {A : Type 0} → (List ℕ → Result (Option A × List ℕ) Fault) → List A → List ℕ → Result (Option A × List ℕ) Fault
 alone turn front text = turn text
 
+-- all items that the text has
 abbrev pub many : {A : Type 0} → (List ℕ → Result (Option A × List ℕ) Fault) → List ℕ → Result (List A × List ℕ) Fault
 many turn text = grow (alone turn) [] text

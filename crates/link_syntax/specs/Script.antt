@@ -1,8 +1,6 @@
 -- Whole scripts.
-use Rattle.std.specs.Prelude.{◌≡◌, ◌<◌, ℕ, ◌==◌, if◌then◌else◌, List, length, Result, Ok, Err}
+use Rattle.std.specs.Prelude.{◌<◌, ℕ, ◌==◌, if◌then◌else◌, List, length, Result, Ok}
 use Rattle.link_syntax.specs.declared.fault.Fault.{Fault}
-use Rattle.link_syntax.specs.declared.fault.ScriptFault.{ScriptFault}
-use Rattle.link_syntax.specs.declared.fault.ScriptFault.TheVariants as faults
 use Rattle.link_syntax.specs.declared.fault.ScriptErrorKind.TheVariants.{Syntax}
 use Rattle.link_syntax.specs.declared.body.RawVersionBody.{RawVersionBody}
 use Rattle.link_syntax.specs.declared.script.RawScript.{RawScript}
@@ -18,6 +16,7 @@ use Rattle.link_syntax.specs.Named.{versions_at}
 abbrev pub to_end : {A : Type 0} → A → List ℕ → Result A Fault
 to_end x text = skip text >>= λ rest. if length rest == 0 then Ok x else refuse Syntax rest
 
+-- a body, a semicolon, and the end of the text
 unfoldable pub anonymous : List ℕ → Result RawVersionBody Fault
 anonymous text = body_at text >>= λ b. or_else (strips semicolon_word b.1) (λ rest. to_end b.0 rest) (refuse Syntax b.1)
 
@@ -30,9 +29,3 @@ script_at text = skip text >>= λ text.
 abbrev pub IsFew : RawScript → Type 0
 IsFew (Anonymous body) = Unit {0}
 IsFew (Named versions) = length versions < 32767
-
--- this script, unless memory ran out
-abbrev pub ReadsAs : RawScript → Result RawScript ScriptFault → Type 0
-ReadsAs raw (Ok read) = read ≡ raw
-ReadsAs raw (Err faults.Memory) = Unit {0}
-ReadsAs raw (Err (faults.Text t)) = ⊥

@@ -21,9 +21,11 @@ use Rattle.link_syntax.specs.Fault.{◌>>=◌, refuse}
 unfoldable pub trimmed : List ℕ → List ℕ
 trimmed bytes = take (length bytes - suffix_len is_ascii_whitespace bytes) bytes
 
+-- a fault where so many bytes are left
 abbrev pub refuse_at : {A : Type 0} → ScriptErrorKind → ℕ → Result A Fault
 refuse_at kind left = Err (record { left = left; kind = kind })
 
+-- the matcher of a compiled glob, with a star or without, or its fault
 abbrev pub glob_from : ℕ → Bool → Result (List GlobToken) GlobError → Result SymbolMatcher Fault
 glob_from left true (Ok tokens) = Ok (StarGlob tokens)
 glob_from left false (Ok tokens) = Ok (NonstarGlob tokens)
@@ -31,18 +33,22 @@ glob_from left kind (Err globs.InvalidUtf8) = refuse_at InvalidUtf8String left
 glob_from left kind (Err globs.InvalidGlob) = refuse_at InvalidGlobPattern left
 glob_from left kind (Err globs.Memory) = refuse_at InvalidGlobPattern left
 
+-- the bytes as a glob
 unfoldable pub glob_at : ℕ → Bool → List ℕ → Result SymbolMatcher Fault
 glob_at left kind token = glob_from left kind (glob_of Gnu token)
 
+-- what bytes of this type mean
 abbrev pub matcher_by : ℕ → List ℕ → GlobPatternType → Result SymbolMatcher Fault
 matcher_by left token types.Exact = Ok (Exact token)
 matcher_by left token types.EscapedExact = Ok (EscapedExact (unescaped token))
 matcher_by left token types.Star = glob_at left true token
 matcher_by left token types.NonStar = glob_at left false token
 
+-- two bytes or more, with a quote first and last
 abbrev pub is_quoted : List ℕ → Bool
 is_quoted token = nat_lt 1 (length token) && get_or token 0 0 == 34 && get_or token (length token - 1) 0 == 34
 
+-- a bare star
 abbrev pub is_star : List ℕ → Bool
 is_star token = length token == 1 && get_or token 0 0 == 42
 
@@ -52,10 +58,12 @@ matcher_of left token =
     if is_quoted token then Ok (Exact (take (length token - 2) (drop 1 token))) else
     (if is_star token then Ok MatchesAll else matcher_by left token (pattern_type token))
 
+-- behind a semicolon, where one stands first
 abbrev pub after_semicolon : List ℕ → List ℕ
 after_semicolon [] = []
 after_semicolon (c ∷ rest) = if c == 59 then rest else c ∷ rest
 
+-- a token that ends at this place, if there is one
 abbrev pub token_ended : List ℕ → Option ℕ → Result (SymbolMatcher × List ℕ) Fault
 token_ended text None = refuse Syntax text
 token_ended text (Some end) =

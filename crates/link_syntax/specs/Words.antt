@@ -1,5 +1,7 @@
 -- The words of scripts, as bytes.
 use Rattle.std.specs.Prelude.{ℕ, List, [], ◌∷◌}
+use Rattle.link_syntax.specs.declared.fault.Language.{Language}
+use Rattle.link_syntax.specs.declared.fault.Language.TheVariants.{C, Cxx}
 
 -- `extern ` with its blank
 abbrev pub extern_word : List ℕ
@@ -12,6 +14,11 @@ c_word = 34 ∷ 67 ∷ 34 ∷ []
 -- `"C++"`
 abbrev pub cxx_word : List ℕ
 cxx_word = 34 ∷ 67 ∷ 43 ∷ 43 ∷ 34 ∷ []
+
+-- a language, as an extern block names it
+abbrev pub word_of : Language → List ℕ
+word_of C = c_word
+word_of Cxx = cxx_word
 
 -- `global:`
 abbrev pub global_word : List ℕ
@@ -36,3 +43,7 @@ close_word = 125 ∷ 59 ∷ []
 -- `;`
 abbrev pub semicolon_word : List ℕ
 semicolon_word = 59 ∷ []
+
+-- `*`
+abbrev pub star_word : List ℕ
+star_word = 42 ∷ []

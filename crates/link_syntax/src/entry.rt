@@ -1,8 +1,10 @@
 //! Entries.
 
 ghost use Rattle.std.specs.Prelude.{◌≡◌, ◌+◌, ◌<◌, ◌≤◌, ℕ, List, length, drop, IfOk, IfErr};
+ghost use Rattle.link_syntax.specs.declared.fault.ScriptErrorKind.{ScriptErrorKind};
 ghost use Rattle.link_syntax.specs.declared.matcher.ParsedSymbolMatcher.{ParsedSymbolMatcher};
 ghost use Rattle.link_syntax.specs.Grammar.{IsEntry};
+ghost use Rattle.link_syntax.specs.Faults.{IsFaultOf, IsRefusedWith, EntryFails};
 ghost use Rattle.link_syntax.specs.Fault.{IsWithin, Gives};
 ghost use Rattle.link_syntax.specs.Entry.{extern_at, entry_at, ReadsEntry, EntryIs};
 
@@ -60,7 +62,11 @@ pub fn parse_matcher(
     ensures found { IfOk result (λ x. (rest : List ℕ) × IsEntry (drop at text.now) x.0 rest × (x.1 + length rest ≡ length text.now)) }
     // What is spelled so is read, unless memory runs out.
     ensures only { (entry : ParsedSymbolMatcher) (rest : List ℕ) → IsEntry (drop at text.now) entry rest → EntryIs text.now entry rest result }
-    // Which fault it is, and where.
+    // What is refused is a fault that the text has there by the grammar, at its place.
+    ensures refused { IfErr result (λ e. IsFaultOf (EntryFails (drop at text.now)) text.now e) }
+    // A fault that the text has there is answered, unless memory runs out.
+    ensures refuses { (kind : ScriptErrorKind) (rest : List ℕ) → EntryFails (drop at text.now) kind rest → IsRefusedWith kind rest text.now result }
+    // The same as a function, for the layers above.
     ensures exact { ReadsEntry text.now result (entry_at (drop at text.now)) }
 {
     entry_from(alloc, text, at)

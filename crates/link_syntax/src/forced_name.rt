@@ -1,8 +1,12 @@
-//! Export names that are forced by an option.
+//! Entries that are added to an export list one by one.
 
-ghost use Rattle.std.specs.Prelude.{◌≡◌, ◌≤◌, length, IfOk, IfErr};
-ghost use Rattle.link_syntax.specs.Fault.{IsWithin, Gives, Answers};
-ghost use Rattle.link_syntax.specs.ListGrammar.{GnuListIsSpelled, ForcedNameIsSpelled};
+ghost use Rattle.std.specs.Prelude.{◌≡◌, ◌≤◌, ℕ, List, length, IfOk, IfErr};
+ghost use Rattle.link_syntax.specs.declared.fault.ScriptErrorKind.{ScriptErrorKind};
+ghost use Rattle.link_syntax.specs.declared.matcher.ParsedSymbolMatcher.{ParsedSymbolMatcher};
+ghost use Rattle.link_syntax.specs.Fault.{IsWithin, Gives, Answers, IsRead};
+ghost use Rattle.link_syntax.specs.Faults.{IsFaultOf, IsRefusedWith};
+ghost use Rattle.link_syntax.specs.ListFaults.{AddedFails};
+ghost use Rattle.link_syntax.specs.ListGrammar.{IsAddedEntry};
 ghost use Rattle.link_syntax.specs.ForcedName.{forced_token, forced_name, added_entry};
 
 use crate::entry::{entry_at, extern_at};
@@ -67,17 +71,30 @@ pub fn read_added_entry(
     text: &[u8],
     without_semicolon: bool,
 ) -> Result<ParsedSymbolMatcher, ScriptFault>
+    // What is read is spelled so by the grammar.
+    ensures found { IfOk result (λ entry. IsAddedEntry without_semicolon text.now entry) }
+    // What is spelled so is read, unless memory runs out.
+    ensures only { (entry : ParsedSymbolMatcher) → IsAddedEntry without_semicolon text.now entry → IsRead entry result }
+    // What is refused is a fault that the text has by the grammar, at its place.
+    ensures refused { IfErr result (λ e. IsFaultOf (AddedFails without_semicolon text.now) text.now e) }
+    // A fault that the text has is answered, unless memory runs out.
+    ensures refuses { (kind : ScriptErrorKind) (at : List ℕ) → AddedFails without_semicolon text.now kind at → IsRefusedWith kind at text.now result }
+    // The same as a function, for the layers above.
     ensures exact { Answers (λ entry. entry) text.now result (added_entry without_semicolon text.now) }
+{
+    read_entry(alloc, text, without_semicolon)
+}
+
+/// The same, by what reading gives alone.
+fn read_entry(
+    alloc: Global,
+    text: &[u8],
+    without_semicolon: bool,
+) -> Result<ParsedSymbolMatcher, ScriptFault>
+    ensures reads { Answers (λ entry. entry) text.now result (added_entry without_semicolon text.now) }
 {
     match added_entry(alloc, text, without_semicolon) {
         Ok(entry) => Ok(entry),
         Err(error) => Err(placed(error, text.len())),
     }
 }
-
-/// What is read as a GNU export list, or as a name that an option adds, is spelled so, and what is spelled so is read. The
-/// function does nothing: it stands for the laws that its contract states.
-pub fn lists_are_spelled()
-    ensures lists { GnuListIsSpelled }
-    ensures names { ForcedNameIsSpelled }
-{}

@@ -1,7 +1,12 @@
 //! GNU export lists.
 
-ghost use Rattle.std.specs.Prelude.{◌≡◌, ◌<◌, ◌≤◌, length, IsSome, IfOk, IfErr};
-ghost use Rattle.link_syntax.specs.Fault.{IsWithin, Gives, Answers};
+ghost use Rattle.std.specs.Prelude.{◌≡◌, ◌<◌, ◌≤◌, ℕ, List, length, IsSome, IfOk, IfErr};
+ghost use Rattle.link_syntax.specs.declared.fault.ScriptErrorKind.{ScriptErrorKind};
+ghost use Rattle.link_syntax.specs.declared.matcher.ParsedSymbolMatcher.{ParsedSymbolMatcher};
+ghost use Rattle.link_syntax.specs.Fault.{IsWithin, Gives, Answers, IsRead};
+ghost use Rattle.link_syntax.specs.Faults.{IsFaultOf, IsRefusedWith};
+ghost use Rattle.link_syntax.specs.ListFaults.{ListFails};
+ghost use Rattle.link_syntax.specs.ListGrammar.{IsExportList};
 ghost use Rattle.link_syntax.specs.GnuList.{list_turn, gnu_entries, gnu_list};
 
 use crate::entry::entry_at;
@@ -66,7 +71,23 @@ fn gnu_list(alloc: Global, text: &[u8]) -> Result<Seq<ParsedSymbolMatcher>, Read
 /// The entries of a GNU export list, as the text of GNU ld's `--dynamic-list`. The fault is the first one from the left,
 /// at its byte.
 pub fn read_gnu_list(alloc: Global, text: &[u8]) -> Result<Seq<ParsedSymbolMatcher>, ScriptFault>
+    // What is read is spelled so by the grammar.
+    ensures found { IfOk result (λ entries. IsExportList text.now entries) }
+    // What is spelled so is read, unless memory runs out.
+    ensures only { (entries : List ParsedSymbolMatcher) → IsExportList text.now entries → IsRead entries result }
+    // What is refused is a fault that the text has by the grammar, at its place.
+    ensures refused { IfErr result (λ e. IsFaultOf (ListFails text.now) text.now e) }
+    // A fault that the text has is answered, unless memory runs out.
+    ensures refuses { (kind : ScriptErrorKind) (at : List ℕ) → ListFails text.now kind at → IsRefusedWith kind at text.now result }
+    // The same as a function, for the layers above.
     ensures exact { Answers (λ entries. entries) text.now result (gnu_list text.now) }
+{
+    read_list(alloc, text)
+}
+
+/// The same, by what reading gives alone.
+fn read_list(alloc: Global, text: &[u8]) -> Result<Seq<ParsedSymbolMatcher>, ScriptFault>
+    ensures reads { Answers (λ entries. entries) text.now result (gnu_list text.now) }
 {
     match gnu_list(alloc, text) {
         Ok(entries) => Ok(entries),

@@ -19,7 +19,7 @@ mod token;
 pub use body::{RawVersionBody, Side};
 pub use entry::parse_matcher;
 pub use fault::{Language, ScriptError, ScriptErrorKind, ScriptFault};
-pub use forced_name::{lists_are_spelled, read_added_entry};
+pub use forced_name::read_added_entry;
 pub use gnu_list::read_gnu_list;
 pub use macho_list::read_macho_list;
 pub use matcher::{ParsedSymbolMatcher, SymbolMatcher};

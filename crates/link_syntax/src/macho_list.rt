@@ -1,10 +1,14 @@
 //! Mach-O export lists.
 
-ghost use Rattle.std.specs.Prelude.{◌≡◌, ◌≤◌, ◌+◌, length, drop, IfOk, IfErr};
+ghost use Rattle.std.specs.Prelude.{◌≡◌, ◌≤◌, ◌+◌, ℕ, List, length, drop, IfOk, IfErr};
 ghost use Rattle.std.specs.Char.{is_ascii_whitespace};
 ghost use Rattle.std.specs.List.{list_any, prefix_len};
 ghost use Rattle.std.specs.Option.{option_map};
-ghost use Rattle.link_syntax.specs.Fault.{IsWithin, Gives, Answers};
+ghost use Rattle.link_syntax.specs.declared.fault.ScriptErrorKind.{ScriptErrorKind};
+ghost use Rattle.link_syntax.specs.declared.matcher.SymbolMatcher.{SymbolMatcher};
+ghost use Rattle.link_syntax.specs.Fault.{IsWithin, Gives, Answers, IsRead};
+ghost use Rattle.link_syntax.specs.Faults.{IsFaultOf, IsRefusedWith};
+ghost use Rattle.link_syntax.specs.MachoGrammar.{IsMachoList, MachoFails};
 ghost use Rattle.link_syntax.specs.MachoList.{IsLineOf, is_glob_byte, uncommented, indent, bare, line_matcher, macho_matcher, macho_list};
 
 use crate::fault::{Fault, ReadError, ScriptErrorKind, ScriptFault, placed};
@@ -137,7 +141,23 @@ fn macho_list(alloc: Global, text: &[u8]) -> Result<Seq<SymbolMatcher>, ReadErro
 /// The names and globs of a Mach-O export list, one on each line that is not empty. A glob that can't be compiled is
 /// refused at its first byte.
 pub fn read_macho_list(alloc: Global, text: &[u8]) -> Result<Seq<SymbolMatcher>, ScriptFault>
+    // What is read is spelled so by the grammar.
+    ensures found { IfOk result (λ matchers. IsMachoList text.now matchers) }
+    // What is spelled so is read, unless memory runs out.
+    ensures only { (matchers : List SymbolMatcher) → IsMachoList text.now matchers → IsRead matchers result }
+    // What is refused is a fault that the text has by the grammar, at its place.
+    ensures refused { IfErr result (λ e. IsFaultOf (MachoFails text.now) text.now e) }
+    // A fault that the text has is answered, unless memory runs out.
+    ensures refuses { (kind : ScriptErrorKind) (at : List ℕ) → MachoFails text.now kind at → IsRefusedWith kind at text.now result }
+    // The same as a function, for the layers above.
     ensures exact { Answers (λ matchers. matchers) text.now result (macho_list text.now) }
+{
+    read_lines(alloc, text)
+}
+
+/// The same, by what reading gives alone.
+fn read_lines(alloc: Global, text: &[u8]) -> Result<Seq<SymbolMatcher>, ScriptFault>
+    ensures reads { Answers (λ matchers. matchers) text.now result (macho_list text.now) }
 {
     match macho_list(alloc, text) {
         Ok(matchers) => Ok(matchers),

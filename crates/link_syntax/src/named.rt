@@ -22,6 +22,7 @@ pub struct RawVersion {
 /// How many named versions there may be.
 pub const MAX_VERSIONS: usize = 32_766;
 
+/// Whether the byte may stand in a name: it is no space, tab, LF, parenthesis or brace.
 fn is_name_byte(byte: u8) -> bool
     ensures { result ≡ is_name_byte byte }
 {

@@ -1,10 +1,12 @@
 //! Whole version scripts.
 
-ghost use Rattle.std.specs.Prelude.{◌≡◌, ◌<◌, length, IfOk, IfErr};
+ghost use Rattle.std.specs.Prelude.{◌≡◌, ◌<◌, ℕ, List, length, IfOk, IfErr};
+ghost use Rattle.link_syntax.specs.declared.fault.ScriptErrorKind.{ScriptErrorKind};
 ghost use Rattle.link_syntax.specs.declared.script.RawScript.{RawScript};
-ghost use Rattle.link_syntax.specs.Fault.{IsWithin, Gives, Answers};
+ghost use Rattle.link_syntax.specs.Fault.{IsWithin, Gives, Answers, IsRead};
 ghost use Rattle.link_syntax.specs.Grammar.{IsVersionScript};
-ghost use Rattle.link_syntax.specs.Script.{anonymous, script_at, IsFew, ReadsAs};
+ghost use Rattle.link_syntax.specs.Faults.{IsFaultOf, IsRefusedWith, ScriptFails};
+ghost use Rattle.link_syntax.specs.Script.{anonymous, script_at, IsFew};
 
 use crate::body::{RawVersionBody, body_at};
 use crate::fault::{ReadError, ScriptFault, placed};
@@ -72,8 +74,12 @@ impl RawScript {
         // What is read is spelled so by the grammar.
         ensures found { IfOk result (λ raw. IsVersionScript text.now raw) }
         // What is spelled so is read, unless memory runs out.
-        ensures only { (raw : RawScript) → IsVersionScript text.now raw → ReadsAs raw result }
-        // Which fault it is, and where.
+        ensures only { (raw : RawScript) → IsVersionScript text.now raw → IsRead raw result }
+        // What is refused is a fault that the text has by the grammar, at its place.
+        ensures refused { IfErr result (λ e. IsFaultOf (ScriptFails text.now) text.now e) }
+        // A fault that the text has is answered, unless memory runs out.
+        ensures refuses { (kind : ScriptErrorKind) (at : List ℕ) → ScriptFails text.now kind at → IsRefusedWith kind at text.now result }
+        // The same as a function, for the layers above.
         ensures exact { Answers (λ raw. raw) text.now result (script_at text.now) }
         ensures few { IfOk result (λ raw. IsFew raw) }
     {

@@ -3,7 +3,7 @@
 ghost use Rattle.std.specs.Prelude.{◌≡◌, ◌==◌, ◌+◌, ◌<◌, ◌≤◌, length, position, IfOk, IfErr, IfSome, Some, None};
 ghost use Rattle.std.specs.Option.{MatchOption};
 ghost use Rattle.std.specs.Prelude.{ℕ, List, Ok};
-ghost use Rattle.link_syntax.specs.Blanks.{Piece, Skips};
+ghost use Rattle.link_syntax.specs.Blanks.{Skipped};
 ghost use Rattle.link_syntax.specs.Fault.{IsWithin, Gives, syntax_at};
 ghost use Rattle.link_syntax.specs.Skip.{skip, strips, turn, begins_with, is_blank};
 
@@ -34,6 +34,7 @@ pub enum Mode {
     Closing,
 }
 
+/// Whether the text begins with the byte.
 pub fn begins_with(text: &[u8], byte: u8) -> bool
     ensures { result ≡ begins_with text.now byte }
 {
@@ -88,8 +89,8 @@ fn turn(mode: Mode, byte: u8, after: &[u8]) -> Option<Mode>
 pub fn skip(text: &[u8]) -> Result<&[u8], ReadError>
     ensures gives { Gives (λ x. x.now) result (skip text.now) }
     // What is skipped is in the grammar, and what is in the grammar is skipped.
-    ensures found { IfOk result (λ x. (pieces : List Piece) × Skips pieces text.now x.now) }
-    ensures only { (pieces : List Piece) (rest : List ℕ) → Skips pieces text.now rest → Gives (λ x. x.now) result (Ok rest) }
+    ensures found { IfOk result (λ x. Skipped text.now x.now) }
+    ensures only { (rest : List ℕ) → Skipped text.now rest → Gives (λ x. x.now) result (Ok rest) }
     ensures shorter { IfOk result (λ x. length x.now ≤ length text.now) }
     ensures inside { IfErr result (λ e. IsWithin e (length text.now)) }
 {

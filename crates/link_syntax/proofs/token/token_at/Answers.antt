@@ -1,7 +1,7 @@
 use Rattle.std.proofs.Common.{ℕ, List, subst}
 use Rattle.link_syntax.specs.Fault.{Gives}
 use Rattle.link_syntax.specs.declared.matcher.SymbolMatcher.{SymbolMatcher}
-use Rattle.link_syntax.proofs.Spelled.{token_of_result, token_only}
+use Rattle.link_syntax.proofs.TokenLaws.{token_of_result, token_only}
 use Rattle.link_syntax.proofs.token.token_at.Goals as goal
 
 pub returns-clause-found : goal.returns-clause-found
