@@ -1,8 +1,10 @@
 //! Version scripts.
 
-ghost use Rattle.std.specs.Prelude.{◌≡◌, [], IfOk};
+ghost use Rattle.std.specs.Prelude.{◌≡◌, [], ℕ, List, IfOk, IfErr};
 ghost use Rattle.std.specs.Option.{option_map};
 ghost use Rattle.link_syntax.specs.declared.script.RawScript.{RawScript};
+ghost use Rattle.link_syntax.specs.declared.fault.ScriptErrorKind.{ScriptErrorKind};
+ghost use Rattle.link_syntax.specs.Faults.{IsFaultOf, IsRefusedWith, ScriptFails};
 ghost use Rattle.link_syntax.specs.Grammar.{IsVersionScript};
 ghost use Rattle.link_syntax.specs.Script.{script_at};
 ghost use Rattle.link_script.specs.Lookup.{asked};
@@ -44,7 +46,11 @@ impl VersionScript {
         ensures found { IfOk result (λ script. (raw : RawScript) × IsVersionScript text.now raw × IsScriptOf raw script) }
         // What is spelled so is read, unless memory runs out.
         ensures only { (raw : RawScript) → IsVersionScript text.now raw → IsSpelledBy raw result }
-        // Which fault it is, and where.
+        // What is refused is a fault that the text has by the grammar, at its place.
+        ensures refused { IfErr result (λ e. IsFaultOf (ScriptFails text.now) text.now e) }
+        // A fault that the text has is answered, unless memory runs out.
+        ensures refuses { (kind : ScriptErrorKind) (at : List ℕ) → ScriptFails text.now kind at → IsRefusedWith kind at text.now result }
+        // The same as a function, for the layers above.
         ensures exact { Parses text.now result (script_at text.now) }
     {
         parse_script(alloc, text)

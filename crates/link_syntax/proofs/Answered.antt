@@ -16,13 +16,15 @@ use Rattle.link_syntax.proofs.BlockLaws.{entry_judged}
 
 -- ---- a fault, by what reading gives
 
-fault_is : {A : Type 0} (text : List ℕ) (read : Result A Fault) (says : A → Type 0) (fails : ScriptErrorKind → List ℕ → Type 0) → Judges read says fails → (e : ScriptFault) → Refuses e text read → IsFaultOf fails text e
+-- what is refused is a fault of the text
+pub fault_is : {A : Type 0} (text : List ℕ) (read : Result A Fault) (says : A → Type 0) (fails : ScriptErrorKind → List ℕ → Type 0) → Judges read says fails → (e : ScriptFault) → Refuses e text read → IsFaultOf fails text e
 fault_is text read says fails j faults.Memory p = tt
 fault_is text read says fails j (faults.Text t) p =
     let f = refused read says fails j (record { left = p.0; kind = t.kind }) p.2 in
     (f.0, f.1, subst (λ (n : ℕ). t.at + n ≡ length text) f.2 p.1)
 
-refuses_by : {A : Type 0} (X : Type 0) (text : List ℕ) (read : Result A Fault) (kind : ScriptErrorKind) (at : List ℕ) → read ≡ refuse kind at → (e : ScriptFault) → Refuses e text read → IsRefusedWith {X = X} kind at text (Err e)
+-- a fault of the text is what is refused, unless memory ran out
+pub refuses_by : {A : Type 0} (X : Type 0) (text : List ℕ) (read : Result A Fault) (kind : ScriptErrorKind) (at : List ℕ) → read ≡ refuse kind at → (e : ScriptFault) → Refuses e text read → IsRefusedWith {X = X} kind at text (Err e)
 refuses_by X text read kind at is faults.Memory p = tt
 refuses_by {A} X text read kind at is (faults.Text t) p =
     let same = err_same {A = A} (record { left = p.0; kind = t.kind }) (record { left = length at; kind = kind }) (sym p.2 ∙ is) in
