@@ -19,7 +19,7 @@ use Rattle.link_closure.specs.Workload.{HasItem, Requests, Marks, IsRoot, IsSoun
 use Rattle.link_claim.specs.Workload.{begin_base, flag_base, word_count, opening_words_of}
 use Rattle.link_claim.specs.Rule.{Sharing, times, total, all_bits, Counts, Fits, Holds}
 use Rattle.link_claim.specs.Steps.{start}
-use Rattle.link_claim.specs.Views.{Seated, with_file, with_claim, with_item, with_begin, with_mark, fresh, joined, spent_view, first_view, MayRequest, MayBegin, MayMark, saw_claim, took_claim, checked, took_begin, Shows, read_flags, saw_mark, joined_mark}
+use Rattle.link_claim.specs.Views.{Seated, with_file, with_claim, with_item, with_begin, with_mark, fresh, joined, spent_view, first_view, MayRequest, MayBegin, MayMark, saw_claim, took_claim, checked, took_begin, told_work, Shows, read_flags, saw_mark, joined_mark}
 use Rattle.link_closure.proofs.Joins.{or_assoc, within_trans, within_left, within_right, within_both, bits_has, bits_within, item_has, contains_none, contains_left, contains_right, contains_append, contains_here, contains_later, contains_cases, either_way}
 use Rattle.link_claim.proofs.Runs.{run_of, run_still, run_claim, run_begin, run_mark}
 use Rattle.link_claim.proofs.Kept.{same_item, item_index, bits_other, unmarked}
@@ -289,6 +289,10 @@ match_true b P Q e p = subst (λ c. MatchBool c P Q) (sym e) p
 -- its second case
 match_false : (b : Bool) (P Q : Type 0) → b ≡ false → Q → MatchBool b P Q
 match_false b P Q e q = subst (λ c. MatchBool c P Q) (sym e) q
+
+-- what a load of the spare word owes
+pub tells_work : (w : Workload) (slots id : ℕ) (me : Seated) → IsTrue me.0.live → Allows (Holds w) slots id me 0 (λ n. n) (told_work w (step slots 0 0 0 none) me)
+tells_work w slots id me live s h len at small = (me.0, keeps, tt, idle w s h id me at live 0, (refl, (h.views id me.0 at).same live))
 
 -- what the load of a request owes
 pub sees_claim : (w : Workload) (slots id : ℕ) (me : Seated) (f : ℕ) → IsTrue me.0.live → IsSound me.0.work → MayRequest me.0 f → Allows (Holds w) slots id me (1 + f) (λ n. n) (saw_claim (step slots (1 + f) 0 0 none) me)

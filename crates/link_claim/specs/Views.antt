@@ -12,9 +12,13 @@ use Rattle.link_claim.specs.Workload.{begin_base, flag_base}
 abbrev pub first_view : Workload → View
 first_view w = record { live = true; work = w; known = []; known_items = []; claims = []; begins = []; marks = [] }
 
+-- no files, items and symbols
+abbrev pub no_work : Workload
+no_work = record { files = 0; roots = []; root_marks = []; opening = []; items = [] }
+
 -- a seat that was joined to another knows and lists nothing, and names no work
 abbrev pub spent_view : View
-spent_view = record (first_view (record { files = 0; roots = []; root_marks = []; opening = []; items = [] })) { live = false }
+spent_view = record (first_view no_work) { live = false }
 
 -- ---- what a view becomes
 
@@ -70,6 +74,10 @@ MayMark v m = Contains v.work.root_marks m ⊎ ((i : ℕ) × Contains v.known_it
 
 abbrev pub Seated : Type 0
 Seated = Me (Unit {0}) View
+
+-- a load of the spare word: the seat's view names this work
+abbrev pub told_work : Workload → Step (Unit {0}) → Seated → ℕ → Seated → Type 0
+told_work w st m n m' = (m' ≡ m) × (m.0.work ≡ w)
 
 -- a load of a claim word: 0 tells nothing
 abbrev pub saw_claim : Step (Unit {0}) → Seated → ℕ → Seated → Type 0

@@ -209,12 +209,25 @@ fn deal(
     Ok(jobs)
 }
 
+// A check by a seat of whose work nothing is known, but that it is of the same words as another.
+fn check_by(words: &Words<EightFiles>, known: &mut WorkSeat, seat: &mut WorkSeat) -> bool
+    requires known { known.old.table ≡ words.now }
+    requires work { known.old.view.work ≡ eight_files }
+    requires table { seat.old.table ≡ words.now }
+    ensures known { known.new ≡ known.old }
+    ensures table { seat.new.table ≡ seat.old.table }
+{
+    known.same_work(words, seat);
+    seat.check(words, 0)
+}
+
 // Takes all seats back, and adds up what was done.
 fn gather(words: &Words<EightFiles>, seat: &mut WorkSeat, mut jobs: Vec<Job>) -> Tally
     requires table { seat.old.table ≡ words.now }
+    requires work { seat.old.view.work ≡ eight_files }
     requires jobs { All (λ j. j.seat.table ≡ words.now) jobs.items }
     ensures table { seat.new.table ≡ seat.old.table }
-    ensures work { seat.new.view.work ≡ seat.old.view.work }
+    ensures work { seat.new.view.work ≡ eight_files }
 {
     let mut all = Tally {
         claims: 0,
@@ -223,10 +236,11 @@ fn gather(words: &Words<EightFiles>, seat: &mut WorkSeat, mut jobs: Vec<Job>) ->
     };
     while let Some(job) = jobs.pop() {
         let Job {
-            seat: other,
+            seat: mut other,
             tally,
             ..
         } = job;
+        let _claimed = check_by(words, seat, &mut other);
         seat.join(words, other);
         all.claims = all.claims.saturating_add(tally.claims);
         all.begins = all.begins.saturating_add(tally.begins);
