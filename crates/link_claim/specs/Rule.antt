@@ -1,5 +1,6 @@
 -- The rule of the shared words: what holds of the words and of all views between any two steps.
-use Rattle.std.specs.Prelude.{◌≡◌, ℕ, ◌+◌, ◌<◌, ◌≤◌, ◌==◌, if◌then◌else◌, IsTrue, IsFalse, ◌⊎◌, List, [], ◌∷◌, length, bit_or, count_by, slice_index, Contains}
+use Rattle.std.specs.Prelude.{◌≡◌, ℕ, ◌+◌, ◌-◌, ◌<◌, ◌≤◌, ◌==◌, if◌then◌else◌, IsTrue, IsFalse, ◌⊎◌, List, [], ◌∷◌, length, bit_or, count_by, slice_index, Contains}
+use Rattle.std.specs.Int.{bit_at}
 use mathlib.Core.Option.{some}
 use lib.ListN.{get_elem?}
 use Rattle.atomic_table.specs.Table.{State}
@@ -10,7 +11,8 @@ use Rattle.link_claim.specs.declared.state.Core.{Core}
 use Rattle.link_claim.specs.declared.state.Claimed.{Claimed}
 use Rattle.link_claim.specs.declared.state.Begun.{Begun}
 use Rattle.link_claim.specs.declared.view.View.{View}
-use Rattle.link_closure.specs.Workload.{IsSound, HasItem, Marks, IsInEachClosed, bits_for}
+use Rattle.link_claim.specs.declared.view.Written.{Written}
+use Rattle.link_closure.specs.Workload.{IsSound, HasItem, Marks, IsInEachClosed, IsWithin, bits_for}
 use Rattle.link_claim.specs.Workload.{begin_base, flag_base, word_count}
 use Rattle.link_claim.specs.Steps.{IsReached, is_claimed, is_begun, marks_of}
 use Rattle.link_claim.specs.Views.{spent_view}
@@ -34,6 +36,11 @@ abbrev pub all_bits : ℕ → List View → ℕ
 all_bits x [] = 0
 all_bits x (v ∷ vs) = bit_or (bits_for x v.marks) (all_bits x vs)
 
+-- how often the bit k of the symbol x was written where it was missing
+abbrev pub times_new : (x k : ℕ) → List Written → ℕ
+times_new x k [] = 0
+times_new x k (j ∷ js) = (if j.mark.symbol == x then bit_at j.mark.bits k - bit_at j.found k else 0) + times_new x k js
+
 -- each of these words is 0 or 1, and how often its number stands in the lists of all views
 abbrev pub Counts : (base count : ℕ) → (View → List ℕ) → List ℕ → List View → Type 0
 Counts base count list words views =
@@ -55,6 +62,9 @@ pub record Fits (w : Workload) (words : List ℕ) (v : View) : Type 0 where
   -- a listed mark is a root mark or one of a known item
   pub marks : (m : Mark) → Contains v.marks m
       → Contains w.root_marks m ⊎ ((i : ℕ) × Contains v.known_items i × Marks w i m)
+  -- a missed mark is not there from the start, and a written one is listed
+  pub missed : (m : Mark) → Contains v.missed m → ¬ IsWithin m.bits (slice_index w.opening m.symbol)
+  pub writes : (j : Written) → Contains v.writes j → Contains v.marks j.mark
 
 -- the words have the bits and the flags of the core's state
 pub record AreWordsOf (w : Workload) (core : Core) (words : List ℕ) : Type 0 where
@@ -88,4 +98,8 @@ pub record Holds (w : Workload) (s : Sharing) : Type 0 where
   -- a flag word is its opening word, joined with all listed bits
   pub flags : (x : ℕ) → x < length w.opening
       → slice_index s.words (flag_base w + x) ≡ bit_or (slice_index w.opening x) (all_bits x s.views)
+  -- a bit of it is an opening bit, or one that just one write of all views found missing, or not set
+  pub writes : (x k : ℕ) → x < length w.opening
+      → bit_at (slice_index s.words (flag_base w + x)) k
+      ≡ bit_at (slice_index w.opening x) k + total (λ v. times_new x k v.writes) s.views
   pub ran : IsRun w s.words s.views

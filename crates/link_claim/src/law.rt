@@ -10,6 +10,8 @@ ghost use Rattle.link_closure.specs.declared.workload.Item.{Item};
 ghost use Rattle.link_closure.specs.Workload.{IsSound, IsRoot, HasEdge, HasItem, bits_for, marked, IsWithin};
 ghost use Rattle.link_claim.specs.Workload.{FitsU32, flag_base};
 ghost use Rattle.link_claim.specs.Views.{first_view, with_claim};
+ghost use Rattle.std.specs.Int.{bit_at};
+ghost use Rattle.link_claim.specs.Rule.{Sharing, Holds, total, times_new};
 ghost use Rattle.link_claim.specs.Stores.{MayStore};
 ghost use Rattle.link_claim.specs.Seats.{Ending, IsSettled, claimed_in, flags_in};
 ghost use Rattle.link_claim.specs.Steps.{IsReached, IsAllRead, state_after, marks_of};
@@ -42,6 +44,13 @@ pub fn flags_only_grow()
         → slice_index (state_after c (MarkStep by m)).flags m.symbol ≡ bit_or (slice_index c.flags m.symbol) m.bits }
     ensures others { (c : Core) (by : ℕ) (m : Mark) (x : ℕ) → x ≢ m.symbol
         → slice_index (state_after c (MarkStep by m)).flags x ≡ slice_index c.flags x }
+{}
+
+/// Whatever seats stepped on the shared words: at most one write of all of them found a given bit of a symbol's flags
+/// missing, and none where it is an opening bit.
+pub fn a_bit_is_new_once()
+    ensures { (w : Workload) (s : Sharing) → Holds w s → (x bit : ℕ) → x < length w.opening
+        → bit_at (slice_index w.opening x) bit + total (λ v. times_new x bit v.writes) s.views ≤ 1 }
 {}
 
 /// Whatever ran between: two endings of the same work that are settled have the same claimed files and the same flags. So
