@@ -5,7 +5,8 @@ use Rattle.std.proofs.Common.{true≢false, ◌⊎◌, inl, inr, ⊎_elim, ne_eq
 use Rattle.std.specs.Prelude.{◌==◌, Contains, IsTrue, MatchBool}
 use mathlib.Core.Logic.{dite}
 use native.Mathlib.Decide.{ℕ_discrete}
-use Rattle.std.specs.Prelude.{max}
+use Rattle.std.specs.Prelude.{max, IsPermutation}
+use Rattle.std.proofs.lemmas.List.Sorted.{IsPermutation-refl}
 use Rattle.std.specs.Int.{bit_at}
 use Rattle.std.specs.Int.Bits.{or_zero_r}
 use Rattle.std.proofs.lemmas.Nat.{or_comm}
@@ -13,7 +14,7 @@ use Rattle.std.proofs.lemmas.Nat.Bits.{bit_at_or}
 use Rattle.std.proofs.lemmas.List.{set-get_or, length-replicate, get_or_append_left, get_or-replicate, get_or-append-add}
 use Rattle.std.proofs.lemmas.Bool.Decides.{nat_tests}
 use Rattle.atomic_table.specs.Table.{step, keeps, stepped, Allows, Splits, Joins, opening}
-use Rattle.atomic_table.proofs.Lists.{at_set, at_snoc, set_again}
+use Rattle.atomic_table.proofs.Lists.{at_set, at_snoc, set_again, set_else}
 use Rattle.link_closure.specs.declared.workload.Mark.{Mark}
 use Rattle.link_closure.specs.declared.workload.Item.{Item}
 use Rattle.link_closure.specs.declared.workload.Workload.{Workload}
@@ -21,11 +22,11 @@ use Rattle.link_claim.specs.declared.view.View.{View}
 use Rattle.link_claim.specs.declared.view.Written.{Written}
 use Rattle.link_closure.specs.Workload.{HasItem, Requests, Marks, IsRoot, IsSound, IsInEachClosed, bits_for, item_bits, marked, IsWithin}
 use Rattle.link_claim.specs.Workload.{begin_base, flag_base, word_count, opening_words_of}
-use Rattle.link_claim.specs.Rule.{Sharing, times, times_new, total, all_bits, Counts, Fits, Holds}
+use Rattle.link_claim.specs.Rule.{Sharing, seat_at, times, times_new, total, all_bits, Counts, Fits, Holds}
 use Rattle.link_claim.specs.Steps.{start}
 use Rattle.link_claim.specs.Views.{Seated, with_file, with_claim, with_item, with_begin, with_mark, with_missed, with_write, fresh, joined, spent_view, first_view, MayRequest, MayBegin, MayMark, saw_claim, took_claim, checked, took_begin, told_work, Shows, read_flags, saw_mark, wrote_mark}
 use Rattle.link_closure.proofs.Joins.{or_assoc, within_trans, within_left, within_right, within_both, bits_has, bits_within, item_has, contains_none, contains_left, contains_right, contains_append, contains_here, contains_later, contains_cases, either_way}
-use Rattle.link_claim.proofs.Runs.{run_of, run_still, run_claim, run_begin, run_mark}
+use Rattle.link_claim.proofs.Runs.{run_new, run_joined, run_still, run_claim, run_begin, run_mark}
 use Rattle.link_claim.proofs.Kept.{same_item, item_index, bits_other, unmarked}
 use Rattle.link_claim.proofs.Views.{times_some, total_set, total_same, times_new_append, total_some, all_bits_has, all_bits_within, all_bits_snoc, all_bits_joined, total_snoc, total_joined, times_append, all_bits_set, all_bits_same, counts_same, counts_won, grows_one, grows_above, fits_grown, fits_set}
 
@@ -66,8 +67,8 @@ module _ (w : Workload) (s : Sharing) (h : Holds w s) (id : ℕ) (me : Seated) (
   same_writes u x k e = ap (λ n. bit_at (get_or w.opening x 0) k + n) (sym (total_same (λ v. times_new x k v.writes) s.views id me.0 u at e))
 
   -- the word stays, and so do the lists of what was done
-  looked : (j : ℕ) (u : View) → Fits w s.words u → u.claims ≡ me.0.claims → u.begins ≡ me.0.begins → u.marks ≡ me.0.marks → u.writes ≡ me.0.writes → After j (get_or s.words j 0) u
-  looked j u fit claims begins marks writes =
+  looked : (j : ℕ) (u : View) → Fits w s.words u → u.claims ≡ me.0.claims → u.begins ≡ me.0.begins → u.marks ≡ me.0.marks → u.writes ≡ me.0.writes → u.live ≡ me.0.live → After j (get_or s.words j 0) u
+  looked j u fit claims begins marks writes live =
       let same = set-get_or s.words j 0 in
       let P : List ℕ → Type 0 = λ ws. Holds w (record { words = ws; homes = s.homes; views = set s.views id u }) in
       let claimed : Counts 1 w.files (λ v. v.claims) s.words (set s.views id u) = λ k lt. subst (λ ws. (get_or ws (1 + k) 0 ≡ total (λ v. times k v.claims) (set s.views id u)) × (get_or ws (1 + k) 0 ≤ 1)) (set-get_or s.words 0 0)
@@ -76,7 +77,7 @@ module _ (w : Workload) (s : Sharing) (h : Holds w s) (id : ℕ) (me : Seated) (
       (counts_same (begin_base w) (length w.items) (λ v. v.begins) s.words s.views h.begins id me.0 u at 0 (get_or s.words 0 0) begins (λ k lt e. omega arith) k lt) in
       subst P (sym same) (record {
         sound = h.sound;
-        ran = run_still w h.sound s.words s.views (set s.views id u) h.ran claimed begun (λ x. all_bits_same x s.views id me.0 u at marks);
+        ran = run_still w h.sound s.words s.views h.ran id me.0 u at live_is live claims begins marks;
         wide = h.wide;
         spare = h.spare;
         views = fits_set w s.words s.views id u h.views fit;
@@ -88,7 +89,7 @@ module _ (w : Workload) (s : Sharing) (h : Holds w s) (id : ℕ) (me : Seated) (
 
   -- a step that changes neither word nor view keeps the rule
   idle : (j : ℕ) → After j (get_or s.words j 0) me.0
-  idle j = looked j me.0 (h.views id me.0 at) refl refl refl refl
+  idle j = looked j me.0 (h.views id me.0 at) refl refl refl refl refl
 
   -- ---- claims
 
@@ -157,7 +158,7 @@ module _ (w : Workload) (s : Sharing) (h : Holds w s) (id : ℕ) (me : Seated) (
       let begins = counts_same (begin_base w) (length w.items) (λ v. v.begins) s.words s.views h.begins id me.0 (with_claim f me.0) at (1 + f) 1 refl (λ k lt' e. omega arith) in
       record {
         sound = h.sound;
-        ran = run_claim w h.sound s.words s.views (set s.views id (with_claim f me.0)) h.ran id f lt within free (may_words same f may) claims begins (λ x. all_bits_same x s.views id me.0 (with_claim f me.0) at refl);
+        ran = run_claim w h.sound s.words s.views h.ran id me.0 (with_claim f me.0) at live_is refl f lt within free (may_words same f may) refl refl refl;
         wide = length-set s.words (1 + f) 1 ∙ h.wide;
         spare = get_or-set_other s.words (1 + f) 0 1 0 (λ e. omega arith) ∙ h.spare;
         views = fits_set w (set s.words (1 + f) 1) s.views id (with_claim f me.0) (λ j u is. fits_grown w s.words (set s.words (1 + f) 1) u (h.views j u is) grows)
@@ -210,7 +211,7 @@ module _ (w : Workload) (s : Sharing) (h : Holds w s) (id : ℕ) (me : Seated) (
       let begins = counts_won (begin_base w) (length w.items) (λ v. v.begins) s.words s.views h.begins id me.0 (with_begin i me.0) at i refl within free in
       record {
         sound = h.sound;
-        ran = run_begin w h.sound s.words s.views (set s.views id (with_begin i me.0)) h.ran id i it has within free ((h.views id me.0 at).known it.file known).1 claims begins (λ x. all_bits_same x s.views id me.0 (with_begin i me.0) at refl);
+        ran = run_begin w h.sound s.words s.views h.ran id me.0 (with_begin i me.0) at live_is refl i it has within free ((h.views id me.0 at).known it.file known).1 refl refl refl;
         wide = length-set s.words (begin_base w + i) 1 ∙ h.wide;
         spare = get_or-set_other s.words (begin_base w + i) 0 1 0 (λ e. omega arith) ∙ h.spare;
         views = fits_set w (set s.words (begin_base w + i) 1) s.views id (with_begin i me.0) (λ j u is. fits_grown w s.words (set s.words (begin_base w + i) 1) u (h.views j u is) grows)
@@ -281,10 +282,10 @@ module _ (w : Workload) (s : Sharing) (h : Holds w s) (id : ℕ) (me : Seated) (
 
   -- the bits are joined to the word of the symbol x, and the view lists the mark
   marked_as : (x b : ℕ) → x < length w.opening → Contains w.root_marks (record { symbol = x; bits = b }) ⊎ ((i : ℕ) × Contains me.0.known_items i × Marks w i (record { symbol = x; bits = b })) → (u : View)
-      → Fits w (set s.words (flag_base w + x) (bit_or (get_or s.words (flag_base w + x) 0) b)) u → u.claims ≡ me.0.claims → u.begins ≡ me.0.begins → u.marks ≡ record { symbol = x; bits = b } ∷ me.0.marks
+      → Fits w (set s.words (flag_base w + x) (bit_or (get_or s.words (flag_base w + x) 0) b)) u → u.live ≡ me.0.live → u.claims ≡ me.0.claims → u.begins ≡ me.0.begins → u.marks ≡ record { symbol = x; bits = b } ∷ me.0.marks
       → ((y k : ℕ) → bit_at (get_or (set s.words (flag_base w + x) (bit_or (get_or s.words (flag_base w + x) 0) b)) (flag_base w + y) 0) k + times_new y k me.0.writes ≡ bit_at (get_or s.words (flag_base w + y) 0) k + times_new y k u.writes)
       → After (flag_base w + x) (bit_or (get_or s.words (flag_base w + x) 0) b) u
-  marked_as x b lt asked u fit claims_are begins_are marks_are gains =
+  marked_as x b lt asked u fit live_same claims_are begins_are marks_are gains =
       let m : Mark = record { symbol = x; bits = b } in
       let j : ℕ = flag_base w + x in
       let n : ℕ = bit_or (get_or s.words j 0) b in
@@ -296,9 +297,8 @@ module _ (w : Workload) (s : Sharing) (h : Holds w s) (id : ℕ) (me : Seated) (
       let more : (y : ℕ) → bits_for y u.marks ≡ bit_or (cond (x == y) b 0) (bits_for y me.0.marks) = λ y. ap (bits_for y) marks_are in
       record {
         sound = h.sound;
-        ran = run_mark w h.sound s.words s.views (set s.views id u) h.ran id m lt within
-            (⊎_elim (λ root. inl root) (λ (t : (i : ℕ) × Contains me.0.known_items i × Marks w i m). inr (t.0, ((h.views id me.0 at).items t.0 t.1).0, t.2)) asked) n refl claims begins
-            (λ y. all_bits_set y (cond (x == y) b 0) s.views id me.0 u at (more y ∙ or_comm (cond (x == y) b 0) (bits_for y me.0.marks)) ∙ or_comm (all_bits y s.views) (cond (x == y) b 0));
+        ran = run_mark w h.sound s.words s.views h.ran id me.0 u at live_is live_same m lt within
+            (⊎_elim (λ root. inl root) (λ (t : (i : ℕ) × Contains me.0.known_items i × Marks w i m). inr (t.0, ((h.views id me.0 at).items t.0 t.1).0, t.2)) asked) n refl claims_are begins_are marks_are;
         wide = length-set s.words j n ∙ h.wide;
         spare = get_or-set_other s.words j 0 n 0 (λ e. omega arith) ∙ h.spare;
         views = fits_set w (set s.words j n) s.views id u (λ k z is. fits_grown w s.words (set s.words j n) z (h.views k z is) grows) fit;
@@ -326,7 +326,7 @@ module _ (w : Workload) (s : Sharing) (h : Holds w s) (id : ℕ) (me : Seated) (
       let n : ℕ = bit_or found b in
       let grows = grows_above (flag_base w) s.words j n (omega arith) in
       let fit = writes_mark (set s.words j n) m found (lists_mark (set s.words j n) (fits_grown w s.words (set s.words j n) me.0 (h.views id me.0 at) grows) m asked) in
-      marked_as x b lt asked (with_write m found me.0) fit refl refl refl (λ y k. ⊎_elim
+      marked_as x b lt asked (with_write m found me.0) fit refl refl refl refl (λ y k. ⊎_elim
       (λ (t : (y ≡ x) × (get_or (set s.words j n) (flag_base w + y) 0 ≡ n)).
       let same : get_or s.words (flag_base w + y) 0 ≡ found = ap (λ z. get_or s.words (flag_base w + z) 0) t.0 in
       let now : bit_at (get_or (set s.words j n) (flag_base w + y) 0) k ≡ bit_at (get_or s.words (flag_base w + y) 0) k + (bit_at b k - bit_at found k) =
@@ -351,7 +351,7 @@ module _ (w : Workload) (s : Sharing) (h : Holds w s) (id : ℕ) (me : Seated) (
       let n : ℕ = bit_or (get_or s.words j 0) b in
       let grows = grows_above (flag_base w) s.words j n (omega arith) in
       let fit = lists_mark (set s.words j n) (fits_grown w s.words (set s.words j n) me.0 (h.views id me.0 at) grows) m asked in
-      subst (λ k. After j k (with_mark m me.0)) same (marked_as x b lt asked (with_mark m me.0) fit refl refl refl (λ y k. ap (λ z. bit_at z k + times_new y k me.0.writes) (⊎_elim
+      subst (λ k. After j k (with_mark m me.0)) same (marked_as x b lt asked (with_mark m me.0) fit refl refl refl refl (λ y k. ap (λ z. bit_at z k + times_new y k me.0.writes) (⊎_elim
       (λ (t : (y ≡ x) × (get_or (set s.words j n) (flag_base w + y) 0 ≡ n)). t.1 ∙ same ∙ ap (λ z. get_or s.words (flag_base w + z) 0) (sym t.0))
       (λ (t : (y ≢ x) × (get_or (set s.words j n) (flag_base w + y) 0 ≡ get_or s.words (flag_base w + y) 0)). t.1)
       (word_now x n lt y))))
@@ -407,7 +407,7 @@ sees_claim w slots id me f live sound may = as_named w slots id me (1 + f) (λ n
       with_file f v,
       keeps,
       tt,
-      looked v.work s h id me at live (1 + f) (with_file f v) (knows_file v.work s h id me at live s.words (h.views id v at) f asked.0 (one_of_claims v.work s h id me at live f asked.0 full) asked.1) refl refl refl refl,
+      looked v.work s h id me at live (1 + f) (with_file f v) (knows_file v.work s h id me at live s.words (h.views id v at) f asked.0 (one_of_claims v.work s h id me at live f asked.0 full) asked.1) refl refl refl refl refl,
       match_false (n == 0) _ _ full (ap (λ (z : View). (z, me.1)) (sym as_f)),
     ))
     (either_way (n == 0)))
@@ -433,7 +433,7 @@ takes_claim w slots id me f live sound may = as_named w slots id me (1 + f) (λ 
       keeps,
       tt,
       subst (λ k. P k (with_file f v)) one
-          (looked v.work s h id me at live (1 + f) (with_file f v) (knows_file v.work s h id me at live s.words (h.views id v at) f asked.0 one asked.1) refl refl refl refl),
+          (looked v.work s h id me at live (1 + f) (with_file f v) (knows_file v.work s h id me at live s.words (h.views id v at) f asked.0 one asked.1) refl refl refl refl refl),
       match_false (n == 0) _ _ full (ap (λ k. (with_file k v, me.1)) (sym (less_one f))),
     ))
     (either_way (n == 0)))
@@ -461,7 +461,7 @@ takes_begin w slots id me i live may = as_named w slots id me (begin_base me.0.w
       keeps,
       tt,
       subst (λ k. P k (with_item i v)) one
-          (looked v.work s h id me at live j (with_item i v) (knows_item v.work s h id me at live s.words (h.views id v at) i may.0 may.1 may.2 one) refl refl refl refl),
+          (looked v.work s h id me at live j (with_item i v) (knows_item v.work s h id me at live s.words (h.views id v at) i may.0 may.1 may.2 one) refl refl refl refl refl),
       match_false (n == 0) _ _ full (ap (λ k. (with_item k v, me.1)) (sym back)),
     ))
     (either_way (n == 0)))
@@ -498,7 +498,7 @@ sees_mark w slots id me x b live lt may = as_named w slots id me (flag_base me.0
       with_missed m v,
       keeps,
       tt,
-      looked v.work s h id me at live j (with_missed m v) (misses_mark v.work s h id me at live m away) refl refl refl refl,
+      looked v.work s h id me at live j (with_missed m v) (misses_mark v.work s h id me at live m away) refl refl refl refl refl,
       (match_false (bit_or n b == n) _ _ missing (ap (λ (k : ℕ). (with_missed (record { symbol = k; bits = b }) v, me.1)) (sym back)), shows),
     ))
     (either_way (bit_or n b == n)))
@@ -544,7 +544,7 @@ checks w slots id me f live lt = as_named w slots id me (1 + f) (λ n. n) (check
       with_file f v,
       keeps,
       tt,
-      looked v.work s h id me at live (1 + f) (with_file f v) (knows_file v.work s h id me at live s.words fit f lt one (claimed_needed v.work s h f lt one)) refl refl refl refl,
+      looked v.work s h id me at live (1 + f) (with_file f v) (knows_file v.work s h id me at live s.words fit f lt one (claimed_needed v.work s h f lt one)) refl refl refl refl refl,
       match_false (n == 0) _ _ full (ap (λ k. (with_file k v, me.1)) (sym (less_one f))),
     ))
     (either_way (n == 0)))
@@ -574,7 +574,7 @@ splits w id v s h at =
     let begun : Counts (begin_base w) (length w.items) (λ u. u.begins) s.words more = λ k lt. let was = h.begins k lt in let sum = total_snoc (λ u. times k u.begins) s.views (fresh v) in (omega arith, was.1) in
     subst (λ vs. Holds w (record { words = s.words; homes = s.homes; views = vs ++ fresh v ∷ [] })) (sym still) (record {
       sound = h.sound;
-      ran = run_still w h.sound s.words s.views more h.ran claimed begun (λ x. all_bits_snoc x s.views (fresh v) refl);
+      ran = run_new w h.sound s.words s.views h.ran (fresh v) refl refl refl;
       wide = h.wide;
       spare = h.spare;
       views = λ j u e. ⊎_elim (λ was. h.views j u was) (λ (new : fresh v ≡ u). subst (Fits w s.words) new (fits_fresh w s.words v (h.views id v at))) (at_snoc s.views (fresh v) u j e);
@@ -618,6 +618,10 @@ fits_joined w words v u live a b = record {
   writes = λ j has. ⊎_elim (λ l. contains_left j.mark v.marks u.marks (a.writes j l)) (λ r. contains_right j.mark v.marks u.marks (b.writes j r)) (contains_append j v.writes u.writes has);
 }
 
+-- the other seat is still there
+there_after : (views : List View) (id : ℕ) (both : View) (other : ℕ) (u : View) → other ≢ id → get_elem? views other ≡ some u → get_elem? (set views id both) other ≡ some u
+there_after views id both other u apart there = set_else views id other both apart ∙ there
+
 -- a join keeps the rule
 pub merges : (w : Workload) (id : ℕ) (v : View) (other : ℕ) (u : View) → IsTrue v.live → Joins (Holds w) id v other u (joined v u) spent_view
 merges w id v other u live s h at apart there_now =
@@ -628,7 +632,7 @@ merges w id v other u live s h at apart there_now =
     let begun : Counts (begin_base w) (length w.items) (λ z. z.begins) s.words now = λ k lt. let was = h.begins k lt in let sum = total_joined s.views id other v u both spent_view at there apart (λ z. times k z.begins) (times_append k v.begins u.begins) refl in (omega arith, was.1) in
     record {
       sound = h.sound;
-      ran = run_still w h.sound s.words s.views now h.ran claimed begun (λ x. all_bits_joined s.views id other v u both spent_view at there apart x refl refl);
+      ran = run_joined w h.sound s.words s.views h.ran id other v u both spent_view apart at there (there_after s.views id both other u apart there) refl refl refl refl refl refl refl refl;
       wide = h.wide;
       spare = h.spare;
       views = fits_set w s.words (set s.views id both) other spent_view (fits_set w s.words s.views id both h.views (fits_joined w s.words v u live (h.views id v at) (h.views other u there))) (fits_spent w s.words);
@@ -659,6 +663,11 @@ one_view : (w : Workload) (words : List ℕ) (j : ℕ) (u : View) → get_elem? 
 one_view w words zero u e = subst (Fits w words) (some-injective (first_view w) u e) (first_fits w words)
 one_view w words (suc j) u e = absurd (some-ne-none u (sym e))
 
+-- each seat is the first, or yet to come
+only_view : (w : Workload) (id : ℕ) → seat_at w (first_view w ∷ []) id ≡ first_view w
+only_view w zero = refl
+only_view w (suc id) = refl
+
 -- the rule holds of words that are 0 but for the opening flags
 pub opens : (w : Workload) (words : List ℕ) → IsSound w → length words ≡ word_count w → ((k : ℕ) → k < flag_base w → get_or words k 0 ≡ 0) → ((x : ℕ) → x < length w.opening → get_or words (flag_base w + x) 0 ≡ get_or w.opening x 0)
     → Holds w (opening words [] (first_view w))
@@ -667,12 +676,22 @@ opens w words sound wide zeros flags =
     let begun : Counts (begin_base w) (length w.items) (λ v. v.begins) words (first_view w ∷ []) = λ k lt. let z = zeros (begin_base w + k) (omega arith) in (z, (omega arith)) in
     record {
       sound = sound;
-      ran = run_of w sound (start w) words (first_view w ∷ []) (record { steps = []; legal = tt; ends = refl })
-          (record {
-            claimed = λ f lt. zeros (1 + f) (omega arith) ∙ ap (λ (b : Bool). cond {A = ℕ} b 1 0) (sym (unmarked w.files f));
-            begun = λ i lt. zeros (begin_base w + i) (omega arith) ∙ ap (λ (b : Bool). cond {A = ℕ} b 1 0) (sym (unmarked (length w.items) i));
-            flags = λ x lt. flags x lt;
-          }) claimed begun (λ x lt. refl);
+      ran = record {
+        core = start w;
+        reached = record { steps = []; legal = tt; ends = refl };
+        words_of = record {
+          claimed = λ f lt. zeros (1 + f) (omega arith) ∙ ap (λ (b : Bool). cond {A = ℕ} b 1 0) (sym (unmarked w.files f));
+          begun = λ i lt. zeros (begin_base w + i) (omega arith) ∙ ap (λ (b : Bool). cond {A = ℕ} b 1 0) (sym (unmarked (length w.items) i));
+          flags = λ x lt. flags x lt;
+        };
+        lists_of = record {
+          holder = λ k. k;
+          own = λ id live. refl;
+          claims = λ id. subst (IsPermutation []) (ap (λ (v : View). v.claims) (sym (only_view w id))) (IsPermutation-refl []);
+          begins = λ id. subst (IsPermutation []) (ap (λ (v : View). v.begins) (sym (only_view w id))) (IsPermutation-refl []);
+          marks = λ id. subst (IsPermutation []) (ap (λ (v : View). v.marks) (sym (only_view w id))) (IsPermutation-refl []);
+        };
+      };
       wide = wide;
       spare = zeros 0 (omega arith);
       views = one_view w words;

@@ -19,7 +19,7 @@ use Rattle.link_closure.proofs.Joins.{contains_here, contains_later, or_assoc, w
 use Rattle.link_claim.proofs.Kept.{item_index}
 
 -- a view has an index below the number of views
-index_of : (vs : List View) (id : ℕ) (v : View) → get_elem? vs id ≡ some v → id < length vs
+pub index_of : (vs : List View) (id : ℕ) (v : View) → get_elem? vs id ≡ some v → id < length vs
 index_of [] id v at = absurd (some-ne-none v (sym at))
 index_of (x ∷ xs) zero v at = omega arith
 index_of (x ∷ xs) (suc id) v at = let r = index_of xs id v at in omega arith

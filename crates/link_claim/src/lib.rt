@@ -19,8 +19,8 @@ pub use closed::Closed;
 pub use flags::{AtomicFlagsRange, AtomicPerSymbolFlags, AtomicValueFlags};
 pub use gate::{Gate, OpenGate};
 pub use law::{
-    a_bit_is_new_once, any_interleaving, flags_only_grow, no_schedule_changes_the_end,
-    no_store_will_do,
+    a_bit_is_new_once, any_interleaving, each_step_is_of_its_seat, flags_only_grow,
+    no_schedule_changes_the_end, no_store_will_do,
 };
 pub use link_closure::{Item, Mark, Workload};
 pub use plan::Plan;
