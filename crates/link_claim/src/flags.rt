@@ -154,13 +154,11 @@ fn write_bits<P: Plan>(words: &Words<P>, seat: &mut WorkSeat, symbol: usize, bit
     ensures fits { result < 2 ^ 32 }
 {
     let word = 1 + seat.files + seat.items + symbol;
-    words
-        .table
-        .shared
-        .fetch_or::<WriteBits>(&mut seat.seat, word, bits)
+    let shared = &words.table.shared;
+    shared.fetch_or::<WriteBits>(&mut seat.seat, word, bits)
 }
 
-// Joins bits to a flag word where one is missing. Answers the word as the last step found it.
+// Joins bits to a flag word, but only once a load saw one missing. Answers the word as the last step found it.
 fn join_missing<P: Plan>(words: &Words<P>, seat: &mut WorkSeat, symbol: usize, bits: u64) -> u64
     requires table { seat.old.table ≡ words.now }
     requires symbol { symbol < length seat.old.view.work.opening }
@@ -190,8 +188,9 @@ impl<'a, P: Plan> AtomicValueFlags<'a, P> {
         flags_of_word(word)
     }
 
-    /// Joins the flags of a root mark, or of a mark of an item known to this seat, to the word: it writes only where one
-    /// is missing. Answers the flags that its last step found, of which holds what `get` says of its answer.
+    /// Joins the flags of a root mark, or of a mark of an item known to this seat, to the word. It loads first, and writes
+    /// only where it saw one missing. Answers the flags that its last step found: those before it wrote, if it did; else
+    /// some that have all that was asked. Of them holds what `get` says of its answer.
     pub fn fetch_or(&self, seat: &mut WorkSeat, flags: ValueFlags) -> ValueFlags
         requires table { seat.old.table ≡ self.now.table }
         requires symbol { self.now.symbol < length seat.old.view.work.opening }

@@ -427,6 +427,29 @@ fn read_three_files(words: &Words<ThreeFiles>, seat: &mut WorkSeat)
     seat.begin(words, 1);
 }
 
+// The flags that a mark of the second symbol found.
+fn found_by_mark(words: &Words<ThreeFiles>, seat: &mut WorkSeat) -> u32
+    requires table { seat.old.table ≡ words.now }
+    requires work { seat.old.view.work ≡ three_files }
+    ensures table { seat.new.table ≡ seat.old.table }
+    ensures work { seat.new.view.work ≡ three_files }
+{
+    let word = AtomicPerSymbolFlags::new(words).get_atomic(SymbolId::from_usize(1));
+    word.fetch_or(seat, ValueFlags::ABSOLUTE).bits()
+}
+
+#[test]
+fn a_mark_finds_what_was_there(rt: HostRuntime) -> Result<(), Fail> {
+    let (words, mut seat) = Words::create(rt.alloc(), &ThreeFiles)?;
+    let found = [
+        found_by_mark(&words, &mut seat),
+        found_by_mark(&words, &mut seat),
+    ];
+    words.close(seat);
+    assert_eq!(rt; found, [0, 1]);
+    Ok(())
+}
+
 // A worked example on the words: which files are claimed and which flags are left is known before it runs.
 fn three_files_on_words(alloc: Global) -> Result<([bool; 3], [u32; 2]), AllocError>
     ensures { IfOk result (λ r. (r.0 ≡ true ∷ true ∷ false ∷ []) × (r.1 ≡ 6 ∷ 1 ∷ [])) }

@@ -1,9 +1,8 @@
 //! The shared words, and the seats that threads step with.
-ghost use Rattle.std.specs.Prelude.{◌≡◌, ◌+◌, ◌<◌, ◌^◌, [], MatchBool, Contains, IfOk, IfSome};
+ghost use Rattle.std.specs.Prelude.{◌≡◌, ◌+◌, ◌<◌, ◌^◌, [], MatchBool, IsTrue, Contains, IfOk, IfSome};
 ghost use Rattle.std.specs.Bool.{OnTrue};
 ghost use Rattle.atomic_table.specs.Seated.{TableId};
 ghost use Rattle.link_claim.specs.Workload.{flag_base, word_count, opening_words_of};
-ghost use Rattle.std.specs.Prelude.{IsTrue};
 ghost use Rattle.link_closure.specs.declared.workload.Workload.{Workload};
 ghost use Rattle.link_claim.specs.Views.{no_work, first_view, spent_view, with_file, with_claim, with_item, with_begin, fresh, joined, MayRequest, MayBegin, saw_claim, took_claim, checked, took_begin, told_work};
 ghost use Rattle.link_claim.specs.Rule.{Holds};
