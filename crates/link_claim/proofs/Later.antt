@@ -1,12 +1,13 @@
 -- Views that only grow.
-use Rattle.std.proofs.Common.{◌≡◌, ℕ, Bool, true, false, Contains, sym, refl, ◌∙◌, subst}
-use Rattle.std.specs.Prelude.{MatchBool}
+use Rattle.std.proofs.lemmas.Nat.{or_comm}
+use Rattle.std.proofs.Common.{bit_or, inl, eq-eqb, ne_eqb, ⊎_elim, ◌≡◌, ℕ, Bool, true, false, Contains, sym, refl, ◌∙◌, subst}
+use Rattle.std.specs.Prelude.{◌==◌, MatchBool}
 use Rattle.std.specs.Bool.{OnTrue}
 use Rattle.link_closure.specs.declared.workload.Mark.{Mark}
 use Rattle.link_claim.specs.declared.view.View.{View}
-use Rattle.link_claim.specs.Views.{with_file, with_claim, with_item, with_begin, with_mark, joined}
+use Rattle.link_claim.specs.Views.{with_file, with_claim, with_item, with_begin, with_mark, with_missed, with_write, joined, IsMarked}
 use Rattle.link_claim.specs.Later.{IsLater, HasRead}
-use Rattle.link_closure.specs.Workload.{Requests, Marks}
+use Rattle.link_closure.specs.Workload.{Requests, Marks, IsWithin}
 use Rattle.link_closure.proofs.Joins.{contains_here, contains_later, contains_left, contains_right}
 
 -- a view is no earlier than itself
@@ -37,6 +38,10 @@ begin_later i v = record { same = refl; known = λ f h. h; items = λ j h. conta
 mark_later : (m : Mark) (v : View) → IsLater v (with_mark m v)
 mark_later m v = record { same = refl; known = λ f h. h; items = λ i h. h; marks = λ k h. contains_later m k v.marks h }
 
+-- with a mark that was missing and is written
+write_later : (m : Mark) (n : ℕ) (v : View) → IsLater v (with_write m n (with_missed m v))
+write_later m n v = record { same = refl; known = λ f h. h; items = λ i h. h; marks = λ k h. contains_later m k v.marks h }
+
 -- what each call comes to
 pub after_request : (b : Bool) (f : ℕ) (v u : View) → MatchBool b (u ≡ with_claim f v) (u ≡ with_file f v) → IsLater v u × Contains u.known f
 after_request true f v u e = subst (λ (z : View). IsLater v z × Contains z.known f) (sym e) (claim_later f v, contains_here f v.known)
@@ -53,8 +58,19 @@ after_begin true i v u e = subst (λ (z : View). IsLater v z × Contains z.known
 after_begin false i v u e = subst (λ (z : View). IsLater v z × Contains z.known_items i) (sym e) (item_later i v, contains_here i v.known_items)
 
 -- after a mark
-pub after_mark : (m : Mark) (v u : View) → u ≡ with_mark m v → IsLater v u × Contains u.marks m
-after_mark m v u e = subst (λ (z : View). IsLater v z × Contains z.marks m) (sym e) (mark_later m v, contains_here m v.marks)
+pub after_mark : (m : Mark) (n : ℕ) (v u : View) → IsMarked m n v u → IsLater v u × Contains u.marks m × (u.known ≡ v.known)
+after_mark m n v u marked = ⊎_elim
+    (λ (t : IsWithin m.bits n × (u ≡ with_mark m v)). subst (λ (z : View). IsLater v z × Contains z.marks m × (z.known ≡ v.known)) (sym t.1) (mark_later m v, contains_here m v.marks, refl))
+    (λ (e : u ≡ with_write m n (with_missed m v)). subst (λ (z : View). IsLater v z × Contains z.marks m × (z.known ≡ v.known)) (sym e) (write_later m n v, contains_here m v.marks, refl))
+    marked
+
+-- a load that asks for a mark found all its bits
+pub asked_all : (m : Mark) (n : ℕ) (v u : View) → MatchBool (bit_or n m.bits == n) (u ≡ with_mark m v) (u ≡ with_missed m v) → bit_or n m.bits ≡ n → IsMarked m n v u
+asked_all m n v u told all = inl (record { joined = or_comm m.bits n ∙ all }, subst (λ b. MatchBool b (u ≡ with_mark m v) (u ≡ with_missed m v)) (eq-eqb (bit_or n m.bits) n all) told)
+
+-- or not all
+pub asked_missing : (m : Mark) (n : ℕ) (v u : View) → MatchBool (bit_or n m.bits == n) (u ≡ with_mark m v) (u ≡ with_missed m v) → (bit_or n m.bits ≡ n → ⊥) → u ≡ with_missed m v
+asked_missing m n v u told some_missing = subst (λ b. MatchBool b (u ≡ with_mark m v) (u ≡ with_missed m v)) (ne_eqb (bit_or n m.bits) n some_missing) told
 
 -- a joined view is later than the one that took the other back
 pub joined_left : (v u : View) → IsLater v (joined v u)

@@ -1,6 +1,7 @@
 pub mod Kept
 pub mod Runs
 pub mod Views
+pub mod Held
 pub mod Moves
 pub mod Later
 pub mod Calls

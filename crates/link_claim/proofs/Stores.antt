@@ -10,7 +10,7 @@ use Rattle.link_closure.specs.declared.workload.Workload.{Workload}
 use Rattle.link_claim.specs.declared.view.View.{View}
 use Rattle.link_closure.specs.Workload.{HasItem, Marks, IsRoot, IsSound, bits_for, IsWithin}
 use Rattle.link_claim.specs.Workload.{FitsU32, begin_base, flag_base, opening_words_of}
-use Rattle.link_claim.specs.Views.{Seated, first_view, fresh, with_claim, with_begin, with_mark, MayRequest}
+use Rattle.link_claim.specs.Views.{Seated, first_view, fresh, with_claim, with_begin, with_write, MayRequest}
 use Rattle.link_claim.specs.Rule.{Sharing, times, all_bits, Holds}
 use Rattle.link_claim.specs.Stores.{MayStore}
 use Rattle.link_closure.proofs.Joins.{contains_here, within_zero, within_trans, within_left, within_right, within_both, bits_has, bits_within}
@@ -81,7 +81,7 @@ module _ (w : Workload) (sound : IsSound w) where
 
     -- and at last it marks
     abbrev marked_state : Sharing
-    marked_state = stepped begun_state (flag_base w + m.symbol) (bit_or (get_or begun_state.words (flag_base w + m.symbol) 0) m.bits) 1 [] (with_mark m (with_begin i (with_claim it.file (fresh (first_view w))))) keeps
+    marked_state = stepped begun_state (flag_base w + m.symbol) (bit_or (get_or begun_state.words (flag_base w + m.symbol) 0) m.bits) 1 [] (with_write m (get_or begun_state.words (flag_base w + m.symbol) 0) (with_begin i (with_claim it.file (fresh (first_view w))))) keeps
 
     -- the rule holds after its mark
     marks : Holds w marked_state
@@ -130,7 +130,7 @@ module _ (w : Workload) (sound : IsSound w) where
         let o : ℕ = get_or w.opening x 0 in
         let bound = small marked_state marks refl fits in
         let r = ok marked_state marks refl refl (omega arith) in
-        let other : View = with_mark m (with_begin i (with_claim it.file (fresh (first_view w)))) in
+        let other : View = with_write m (get_or begun_state.words (flag_base w + m.symbol) 0) (with_begin i (with_claim it.file (fresh (first_view w)))) in
         let vs : List View = r.0 ∷ other ∷ [] in
         subst (IsWithin m.bits) (sym (r.3.flags x lt) ∙ stored marked_state n marks)
         (within_trans (bits_has x (m ∷ []) m (contains_here m []) refl) (within_trans (all_bits_has x vs 1 other refl) (within_right o (all_bits x vs))))

@@ -11,23 +11,28 @@ use Rattle.atomic_table.proofs.Lists.{at_set, set_here, set_else}
 use Rattle.link_closure.specs.declared.workload.Mark.{Mark}
 use Rattle.link_closure.specs.declared.workload.Workload.{Workload}
 use Rattle.link_claim.specs.declared.view.View.{View}
+use Rattle.link_claim.specs.declared.view.Written.{Written}
 use Rattle.link_closure.specs.Workload.{bits_for, IsWithin}
 use Rattle.link_claim.specs.Workload.{begin_base, flag_base}
-use Rattle.link_claim.specs.Rule.{times, total, all_bits, Counts, Fits}
+use Rattle.link_claim.specs.Rule.{times, times_new, total, all_bits, Counts, Fits}
 use Rattle.link_closure.proofs.Joins.{contains_here, contains_later, or_assoc, within_zero, within_trans, within_left, within_right, within_both, within_same}
 use Rattle.link_claim.proofs.Kept.{item_index}
 
 -- a view has an index below the number of views
-index_of : (vs : List View) (id : ℕ) (v : View) → get_elem? vs id ≡ some v → id < length vs
+pub index_of : (vs : List View) (id : ℕ) (v : View) → get_elem? vs id ≡ some v → id < length vs
 index_of [] id v at = absurd (some-ne-none v (sym at))
 index_of (x ∷ xs) zero v at = omega arith
 index_of (x ∷ xs) (suc id) v at = let r = index_of xs id v at in omega arith
 
 -- a sum over all views after one of them changes
-total_set : (f : View → ℕ) (vs : List View) (id : ℕ) (v u : View) → get_elem? vs id ≡ some v → total f (set vs id u) + f v ≡ total f vs + f u
+pub total_set : (f : View → ℕ) (vs : List View) (id : ℕ) (v u : View) → get_elem? vs id ≡ some v → total f (set vs id u) + f v ≡ total f vs + f u
 total_set f [] id v u at = absurd (some-ne-none v (sym at))
 total_set f (x ∷ xs) zero v u at = let e : f x ≡ f v = ap f (some-injective x v at) in omega arith
 total_set f (x ∷ xs) (suc id) v u at = let r = total_set f xs id v u at in omega arith
+
+-- a sum over all views stays, where what changes counts the same
+pub total_same : (f : View → ℕ) (vs : List View) (id : ℕ) (v u : View) → get_elem? vs id ≡ some v → f u ≡ f v → total f (set vs id u) ≡ total f vs
+total_same f vs id v u at e = let r = total_set f vs id v u at in omega arith
 
 -- a sum over all views and a new one
 pub total_snoc : (f : View → ℕ) (vs : List View) (v : View) → total f (vs ++ v ∷ []) ≡ total f vs + f v
@@ -109,6 +114,8 @@ fits_grown w old new v fit grows = record {
   items = λ i has. let k = fit.items i has in let lt = item_index w.items i k.1.0 k.1.1 in (grows (begin_base w + i) (omega arith) k.0, k.1);
   begins = fit.begins;
   marks = fit.marks;
+  missed = fit.missed;
+  writes = fit.writes;
 }
 
 -- each view fits where the new one does
@@ -144,6 +151,11 @@ bits_append x (m ∷ ms) ns = ap (bit_or (cond (m.symbol == x) m.bits 0)) (bits_
 pub times_append : (k : ℕ) (xs ys : List ℕ) → times k (xs ++ ys) ≡ times k xs + times k ys
 times_append k [] ys = omega arith
 times_append k (x ∷ xs) ys = let r = times_append k xs ys in omega arith
+
+-- how often a bit was written where it was missing, by two lists
+pub times_new_append : (x k : ℕ) (js is : List Written) → times_new x k (js ++ is) ≡ times_new x k js + times_new x k is
+times_new_append x k [] is = omega arith
+times_new_append x k (j ∷ js) is = let r = times_new_append x k js is in omega arith
 
 -- ---- two views are made one
 

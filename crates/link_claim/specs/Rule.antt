@@ -1,5 +1,7 @@
 -- The rule of the shared words: what holds of the words and of all views between any two steps.
-use Rattle.std.specs.Prelude.{◌≡◌, ℕ, ◌+◌, ◌<◌, ◌≤◌, ◌==◌, if◌then◌else◌, IsTrue, IsFalse, ◌⊎◌, List, [], ◌∷◌, length, bit_or, count_by, slice_index, Contains}
+use Rattle.std.specs.Prelude.{◌≡◌, ℕ, ◌+◌, ◌-◌, ◌<◌, ◌≤◌, ◌==◌, if◌then◌else◌, IsTrue, IsFalse, ◌⊎◌, List, [], ◌∷◌, map, length, bit_or, slice_index, Contains, IsPermutation}
+use Rattle.std.specs.Int.{bit_at}
+use Rattle.std.specs.List.{filter, slice_index_or}
 use mathlib.Core.Option.{some}
 use lib.ListN.{get_elem?}
 use Rattle.atomic_table.specs.Table.{State}
@@ -9,11 +11,13 @@ use Rattle.link_closure.specs.declared.workload.Workload.{Workload}
 use Rattle.link_claim.specs.declared.state.Core.{Core}
 use Rattle.link_claim.specs.declared.state.Claimed.{Claimed}
 use Rattle.link_claim.specs.declared.state.Begun.{Begun}
+use Rattle.link_claim.specs.declared.state.Marked.{Marked}
 use Rattle.link_claim.specs.declared.view.View.{View}
-use Rattle.link_closure.specs.Workload.{IsSound, HasItem, Marks, IsInEachClosed, bits_for}
+use Rattle.link_claim.specs.declared.view.Written.{Written}
+use Rattle.link_closure.specs.Workload.{IsSound, HasItem, Marks, IsInEachClosed, IsWithin, bits_for}
 use Rattle.link_claim.specs.Workload.{begin_base, flag_base, word_count}
-use Rattle.link_claim.specs.Steps.{IsReached, is_claimed, is_begun, marks_of}
-use Rattle.link_claim.specs.Views.{spent_view}
+use Rattle.link_claim.specs.Steps.{IsReached, is_claimed, is_begun}
+use Rattle.link_claim.specs.Views.{first_view, spent_view}
 
 -- the words and all views
 abbrev pub Sharing : Type 0
@@ -33,6 +37,11 @@ total f (v ∷ vs) = f v + total f vs
 abbrev pub all_bits : ℕ → List View → ℕ
 all_bits x [] = 0
 all_bits x (v ∷ vs) = bit_or (bits_for x v.marks) (all_bits x vs)
+
+-- how often the bit k of the symbol x was written where it was missing
+abbrev pub times_new : (x k : ℕ) → List Written → ℕ
+times_new x k [] = 0
+times_new x k (j ∷ js) = (if j.mark.symbol == x then bit_at j.mark.bits k - bit_at j.found k else 0) + times_new x k js
 
 -- each of these words is 0 or 1, and how often its number stands in the lists of all views
 abbrev pub Counts : (base count : ℕ) → (View → List ℕ) → List ℕ → List View → Type 0
@@ -55,6 +64,9 @@ pub record Fits (w : Workload) (words : List ℕ) (v : View) : Type 0 where
   -- a listed mark is a root mark or one of a known item
   pub marks : (m : Mark) → Contains v.marks m
       → Contains w.root_marks m ⊎ ((i : ℕ) × Contains v.known_items i × Marks w i m)
+  -- a missed mark is not there from the start, and a written one is listed
+  pub missed : (m : Mark) → Contains v.missed m → ¬ IsWithin m.bits (slice_index w.opening m.symbol)
+  pub writes : (j : Written) → Contains v.writes j → Contains v.marks j.mark
 
 -- the words have the bits and the flags of the core's state
 pub record AreWordsOf (w : Workload) (core : Core) (words : List ℕ) : Type 0 where
@@ -62,13 +74,25 @@ pub record AreWordsOf (w : Workload) (core : Core) (words : List ℕ) : Type 0 w
   pub begun : (i : ℕ) → i < length w.items → slice_index words (begin_base w + i) ≡ (if is_begun core i then 1 else 0)
   pub flags : (x : ℕ) → x < length w.opening → slice_index words (flag_base w + x) ≡ slice_index core.flags x
 
--- the lists of all views together are the core's lists
+-- the seat of this number; one that is yet to come is live, and lists nothing
+abbrev pub seat_at : Workload → List View → ℕ → View
+seat_at w views id = slice_index_or views id (first_view w)
+
+-- what these events of the core name, of the workers whose holder is the seat
+abbrev pub held : {E X : Type 0} → (E → ℕ) → (E → X) → (ℕ → ℕ) → ℕ → List E → List X
+held worker named holder id events = map named (filter (λ e. holder (worker e) == id) events)
+
+-- each worker of the core is a seat. What a worker listed is held by one seat, a live worker's by that very seat, and
+-- each view lists just what its seat holds, in some order
 pub record AreListsOf (w : Workload) (core : Core) (views : List View) : Type 0 where
-  pub claims : (f : ℕ) → f < w.files
-      → count_by (λ (k : Claimed). k.file == f) core.claims ≡ total (λ v. times f v.claims) views
-  pub begins : (i : ℕ) → i < length w.items
-      → count_by (λ (k : Begun). k.item == i) core.begins ≡ total (λ v. times i v.begins) views
-  pub marks : (x : ℕ) → x < length w.opening → bits_for x (marks_of core) ≡ all_bits x views
+  pub holder : ℕ → ℕ
+  pub own : (id : ℕ) → IsTrue (seat_at w views id).live → holder id ≡ id
+  pub claims : (id : ℕ)
+      → IsPermutation (held (λ (k : Claimed). k.worker) (λ k. k.file) holder id core.claims) (seat_at w views id).claims
+  pub begins : (id : ℕ)
+      → IsPermutation (held (λ (k : Begun). k.worker) (λ k. k.item) holder id core.begins) (seat_at w views id).begins
+  pub marks : (id : ℕ)
+      → IsPermutation (held (λ (k : Marked). k.worker) (λ k. k.mark) holder id core.marks) (seat_at w views id).marks
 
 -- the words and the lists are those of a state that some legal steps of the core lead to
 pub record IsRun (w : Workload) (words : List ℕ) (views : List View) : Type 0 where
@@ -88,4 +112,8 @@ pub record Holds (w : Workload) (s : Sharing) : Type 0 where
   -- a flag word is its opening word, joined with all listed bits
   pub flags : (x : ℕ) → x < length w.opening
       → slice_index s.words (flag_base w + x) ≡ bit_or (slice_index w.opening x) (all_bits x s.views)
+  -- a bit of it is an opening bit, or one that just one write of all views found missing, or not set
+  pub writes : (x k : ℕ) → x < length w.opening
+      → bit_at (slice_index s.words (flag_base w + x)) k
+      ≡ bit_at (slice_index w.opening x) k + total (λ v. times_new x k v.writes) s.views
   pub ran : IsRun w s.words s.views

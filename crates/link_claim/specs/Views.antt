@@ -10,11 +10,15 @@ use Rattle.link_claim.specs.Workload.{begin_base, flag_base}
 
 -- the first seat knows and lists nothing
 abbrev pub first_view : Workload → View
-first_view w = record { live = true; work = w; known = []; known_items = []; claims = []; begins = []; marks = [] }
+first_view w = record { live = true; work = w; known = []; known_items = []; claims = []; begins = []; marks = []; missed = []; writes = [] }
+
+-- no files, items and symbols
+abbrev pub no_work : Workload
+no_work = record { files = 0; roots = []; root_marks = []; opening = []; items = [] }
 
 -- a seat that was joined to another knows and lists nothing, and names no work
 abbrev pub spent_view : View
-spent_view = record (first_view (record { files = 0; roots = []; root_marks = []; opening = []; items = [] })) { live = false }
+spent_view = record (first_view no_work) { live = false }
 
 -- ---- what a view becomes
 
@@ -38,9 +42,22 @@ with_begin i v = record v { known_items = i ∷ v.known_items; begins = i ∷ v.
 abbrev pub with_mark : Mark → View → View
 with_mark m v = record v { marks = m ∷ v.marks }
 
+-- a bit of the mark was seen to be missing
+abbrev pub with_missed : Mark → View → View
+with_missed m v = record v { missed = m ∷ v.missed }
+
+-- the mark is listed, and this seat wrote it where it found the word n
+abbrev pub with_write : Mark → ℕ → View → View
+with_write m n v = record v { marks = m ∷ v.marks; writes = record { mark = m; found = n } ∷ v.writes }
+
+-- a mark was made, and the last step found the word n: all bits were there, and nothing was written; or a bit was seen
+-- to be missing, and then they were written
+abbrev pub IsMarked : Mark → ℕ → View → View → Type 0
+IsMarked m n v u = (IsWithin m.bits n × (u ≡ with_mark m v)) ⊎ (u ≡ with_write m n (with_missed m v))
+
 -- a new seat knows the same, and has done nothing
 abbrev pub fresh : View → View
-fresh v = record v { claims = []; begins = []; marks = [] }
+fresh v = record v { claims = []; begins = []; marks = []; missed = []; writes = [] }
 
 -- all lists of both
 abbrev pub joined : View → View → View
@@ -50,6 +67,8 @@ joined v u = record v {
   claims = v.claims ++ u.claims;
   begins = v.begins ++ u.begins;
   marks = v.marks ++ u.marks;
+  missed = v.missed ++ u.missed;
+  writes = v.writes ++ u.writes;
 }
 
 -- ---- what a step needs
@@ -70,6 +89,10 @@ MayMark v m = Contains v.work.root_marks m ⊎ ((i : ℕ) × Contains v.known_it
 
 abbrev pub Seated : Type 0
 Seated = Me (Unit {0}) View
+
+-- a load of the spare word: the seat's view names this work
+abbrev pub told_work : Workload → Step (Unit {0}) → Seated → ℕ → Seated → Type 0
+told_work w st m n m' = (m' ≡ m) × (m.0.work ≡ w)
 
 -- a load of a claim word: 0 tells nothing
 abbrev pub saw_claim : Step (Unit {0}) → Seated → ℕ → Seated → Type 0
@@ -103,12 +126,12 @@ mark_at st v bits = record { symbol = st.word - flag_base v.work; bits = bits }
 abbrev pub read_flags : Step (Unit {0}) → Seated → ℕ → Seated → Type 0
 read_flags st m n m' = (m' ≡ m) × Shows m.0 (st.word - flag_base m.0.work) n
 
--- a load of a flag word that lists a mark, where its bits are set
+-- a load of a flag word that asks for a mark: it is listed where its bits are set, and missed where one is not
 abbrev pub saw_mark : ℕ → Step (Unit {0}) → Seated → ℕ → Seated → Type 0
 saw_mark bits st m n m' =
-    MatchBool (bit_or n bits == n) (m' ≡ (with_mark (mark_at st m.0 bits) m.0, m.1)) (m' ≡ m)
+    MatchBool (bit_or n bits == n) (m' ≡ (with_mark (mark_at st m.0 bits) m.0, m.1)) (m' ≡ (with_missed (mark_at st m.0 bits) m.0, m.1))
     × Shows m.0 (st.word - flag_base m.0.work) n
 
--- the bits are joined to a flag word
-abbrev pub joined_mark : Step (Unit {0}) → Seated → ℕ → Seated → Type 0
-joined_mark st m n m' = (m' ≡ (with_mark (mark_at st m.0 st.first) m.0, m.1)) × Shows m.0 (st.word - flag_base m.0.work) n
+-- the bits are written: joined to a flag word
+abbrev pub wrote_mark : Step (Unit {0}) → Seated → ℕ → Seated → Type 0
+wrote_mark st m n m' = (m' ≡ (with_write (mark_at st m.0 st.first) n m.0, m.1)) × Shows m.0 (st.word - flag_base m.0.work) n

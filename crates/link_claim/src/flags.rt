@@ -1,7 +1,7 @@
 //! The flag words, which seats read and join bits to.
 ghost use Rattle.std.specs.Prelude.{◌≡◌, ℕ, ◌+◌, ◌≤◌, ◌<◌, ◌==◌, ◌^◌, length, bit_or, MatchBool, Contains};
 ghost use Rattle.atomic_table.specs.Seated.{TableId};
-ghost use Rattle.link_claim.specs.Views.{MayMark, Shows, with_mark, read_flags, saw_mark, joined_mark};
+ghost use Rattle.link_claim.specs.Views.{IsMarked, MayMark, Shows, with_mark, with_missed, with_write, read_flags, saw_mark, wrote_mark};
 ghost use Rattle.link_claim.specs.Seats.{FlagPlace, FlagSpan, flag_words_of, mark_of};
 ghost use Rattle.std.specs.Iterator.{YieldsFirst, item_count};
 ghost use Rattle.link_claim.specs.Later.{IsLater};
@@ -39,10 +39,10 @@ impl<B: Asked> Play<(), View> for LookFor<B> {
     ghost then = { saw_mark B.bits };
 }
 
-struct JoinBits;
+struct WriteBits;
 
-impl Play<(), View> for JoinBits {
-    ghost then = { joined_mark };
+impl Play<(), View> for WriteBits {
+    ghost then = { wrote_mark };
 }
 
 /// The flag words of all symbols. Mirrors Wild's `AtomicPerSymbolFlags`. A contract sees it as the words that it is of.
@@ -122,7 +122,7 @@ fn load<P: Plan>(words: &Words<P>, seat: &mut WorkSeat, symbol: usize) -> u64
     words.table.shared.load::<Look>(&mut seat.seat, word)
 }
 
-// Reads a flag word, and lists the mark where its bits are set.
+// Reads a flag word. The mark is listed where its bits are set, and missed where one is not.
 fn look_for<B: Asked, P: Plan>(
     words: &Words<P>,
     seat: &mut WorkSeat,
@@ -136,7 +136,7 @@ fn look_for<B: Asked, P: Plan>(
     ensures table { seat.new.table ≡ seat.old.table }
     ensures view { MatchBool (bit_or result bits == result)
         (seat.new.view ≡ with_mark (record { symbol = symbol; bits = bits }) seat.old.view)
-        (seat.new.view ≡ seat.old.view) }
+        (seat.new.view ≡ with_missed (record { symbol = symbol; bits = bits }) seat.old.view) }
     ensures shows { Shows seat.old.view symbol result }
     ensures fits { result < 2 ^ 32 }
 {
@@ -144,30 +144,28 @@ fn look_for<B: Asked, P: Plan>(
     words.table.shared.load::<LookFor<B>>(&mut seat.seat, word)
 }
 
-// Joins bits to a flag word.
-fn join_bits<P: Plan>(words: &Words<P>, seat: &mut WorkSeat, symbol: usize, bits: u64) -> u64
+// Joins bits to a flag word, whatever it holds.
+fn write_bits<P: Plan>(words: &Words<P>, seat: &mut WorkSeat, symbol: usize, bits: u64) -> u64
     requires table { seat.old.table ≡ words.now }
     requires symbol { symbol < length seat.old.view.work.opening }
     requires may { MayMark seat.old.view (record { symbol = symbol; bits = bits }) }
     ensures table { seat.new.table ≡ seat.old.table }
-    ensures view { seat.new.view ≡ with_mark (record { symbol = symbol; bits = bits }) seat.old.view }
+    ensures view { seat.new.view ≡ with_write (record { symbol = symbol; bits = bits }) result seat.old.view }
     ensures shows { Shows seat.old.view symbol result }
     ensures fits { result < 2 ^ 32 }
 {
     let word = 1 + seat.files + seat.items + symbol;
-    words
-        .table
-        .shared
-        .fetch_or::<JoinBits>(&mut seat.seat, word, bits)
+    let shared = &words.table.shared;
+    shared.fetch_or::<WriteBits>(&mut seat.seat, word, bits)
 }
 
-// Joins bits to a flag word where one is missing. Answers the word as the last step found it.
+// Joins bits to a flag word, but only once a load saw one missing. Answers the word as the last step found it.
 fn join_missing<P: Plan>(words: &Words<P>, seat: &mut WorkSeat, symbol: usize, bits: u64) -> u64
     requires table { seat.old.table ≡ words.now }
     requires symbol { symbol < length seat.old.view.work.opening }
     requires may { MayMark seat.old.view (record { symbol = symbol; bits = bits }) }
     ensures table { seat.new.table ≡ seat.old.table }
-    ensures view { seat.new.view ≡ with_mark (record { symbol = symbol; bits = bits }) seat.old.view }
+    ensures view { IsMarked (record { symbol = symbol; bits = bits }) result seat.old.view seat.new.view }
     ensures shows { Shows seat.old.view symbol result }
     ensures fits { result < 2 ^ 32 }
 {
@@ -175,7 +173,7 @@ fn join_missing<P: Plan>(words: &Words<P>, seat: &mut WorkSeat, symbol: usize, b
     if found | bits == found {
         return found;
     }
-    join_bits(words, seat, symbol, bits)
+    write_bits(words, seat, symbol, bits)
 }
 
 impl<'a, P: Plan> AtomicValueFlags<'a, P> {
@@ -191,14 +189,15 @@ impl<'a, P: Plan> AtomicValueFlags<'a, P> {
         flags_of_word(word)
     }
 
-    /// Joins the flags of a root mark, or of a mark of an item known to this seat, to the word: it writes only where one
-    /// is missing. Answers the flags that its last step found, of which holds what `get` says of its answer.
+    /// Joins the flags of a root mark, or of a mark of an item known to this seat, to the word. It loads first, and writes
+    /// only where it saw one missing. Answers the flags that its last step found: those before it wrote, if it did; else
+    /// some that have all that was asked. Of them holds what `get` says of its answer.
     pub fn fetch_or(&self, seat: &mut WorkSeat, flags: ValueFlags) -> ValueFlags
         requires table { seat.old.table ≡ self.now.table }
         requires symbol { self.now.symbol < length seat.old.view.work.opening }
         requires may { MayMark seat.old.view (mark_of self.now flags) }
         ensures table { seat.new.table ≡ seat.old.table }
-        ensures view { seat.new.view ≡ with_mark (mark_of self.now flags) seat.old.view }
+        ensures view { IsMarked (mark_of self.now flags) result.0 seat.old.view seat.new.view }
         ensures shows { Shows seat.old.view self.now.symbol result.0 }
         ensures later { IsLater seat.old.view seat.new.view }
         ensures listed { Contains seat.new.view.marks (mark_of self.now flags) }
@@ -214,7 +213,7 @@ impl<'a, P: Plan> AtomicValueFlags<'a, P> {
         requires symbol { self.now.symbol < length seat.old.view.work.opening }
         requires may { MayMark seat.old.view (mark_of self.now flags) }
         ensures table { seat.new.table ≡ seat.old.table }
-        ensures view { seat.new.view ≡ with_mark (mark_of self.now flags) seat.old.view }
+        ensures view { (found : ℕ) × IsMarked (mark_of self.now flags) found seat.old.view seat.new.view }
         ensures later { IsLater seat.old.view seat.new.view }
         ensures listed { Contains seat.new.view.marks (mark_of self.now flags) }
     {

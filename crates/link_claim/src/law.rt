@@ -1,5 +1,5 @@
 //! The laws that every order of the steps keeps.
-ghost use Rattle.std.specs.Prelude.{◌≡◌, ◌≢◌, ◌==◌, ◌≤◌, ◌<◌, ℕ, IsTrue, IsBitSet, count_by, ◌+◌, Contains, bit_or, slice_index, length};
+ghost use Rattle.std.specs.Prelude.{◌≡◌, ◌≢◌, ◌==◌, ◌≤◌, ◌<◌, ℕ, IsTrue, IsBitSet, List, count_by, ◌+◌, Contains, bit_or, slice_index, length};
 ghost use Rattle.link_closure.specs.Closure.{IsLeastClosed, IsPartOfEachClosed, is_marked};
 ghost use Rattle.link_closure.specs.declared.workload.Workload.{Workload};
 ghost use Rattle.link_claim.specs.declared.state.Core.{Core};
@@ -10,6 +10,12 @@ ghost use Rattle.link_closure.specs.declared.workload.Item.{Item};
 ghost use Rattle.link_closure.specs.Workload.{IsSound, IsRoot, HasEdge, HasItem, bits_for, marked, IsWithin};
 ghost use Rattle.link_claim.specs.Workload.{FitsU32, flag_base};
 ghost use Rattle.link_claim.specs.Views.{first_view, with_claim};
+ghost use Rattle.std.specs.Int.{bit_at};
+ghost use Rattle.link_claim.specs.Rule.{Sharing, Holds, IsRun, seat_at, total, times_new};
+ghost use Rattle.link_claim.specs.declared.state.Claimed.{Claimed};
+ghost use Rattle.link_claim.specs.declared.state.Begun.{Begun};
+ghost use Rattle.link_claim.specs.declared.state.Marked.{Marked};
+ghost use Rattle.link_claim.specs.declared.view.View.{View};
 ghost use Rattle.link_claim.specs.Stores.{MayStore};
 ghost use Rattle.link_claim.specs.Seats.{Ending, IsSettled, claimed_in, flags_in};
 ghost use Rattle.link_claim.specs.Steps.{IsReached, IsAllRead, state_after, marks_of};
@@ -42,6 +48,27 @@ pub fn flags_only_grow()
         → slice_index (state_after c (MarkStep by m)).flags m.symbol ≡ bit_or (slice_index c.flags m.symbol) m.bits }
     ensures others { (c : Core) (by : ℕ) (m : Mark) (x : ℕ) → x ≢ m.symbol
         → slice_index (state_after c (MarkStep by m)).flags x ≡ slice_index c.flags x }
+{}
+
+/// However the words came to be: what the core lists for a worker whose seat is live stands in that very seat's view. So
+/// no step of a seat can be listed for another live one.
+pub fn each_step_is_of_its_seat()
+    ensures claims { (w : Workload) (words : List ℕ) (views : List View) → (run : IsRun w words views) → (k : Claimed)
+        → Contains run.core.claims k → IsTrue (seat_at w views k.worker).live
+        → Contains (seat_at w views k.worker).claims k.file }
+    ensures begins { (w : Workload) (words : List ℕ) (views : List View) → (run : IsRun w words views) → (k : Begun)
+        → Contains run.core.begins k → IsTrue (seat_at w views k.worker).live
+        → Contains (seat_at w views k.worker).begins k.item }
+    ensures marks { (w : Workload) (words : List ℕ) (views : List View) → (run : IsRun w words views) → (k : Marked)
+        → Contains run.core.marks k → IsTrue (seat_at w views k.worker).live
+        → Contains (seat_at w views k.worker).marks k.mark }
+{}
+
+/// Whatever seats stepped on the shared words: at most one write of all of them found a given bit of a symbol's flags
+/// missing, and none where it is an opening bit.
+pub fn a_bit_is_new_once()
+    ensures { (w : Workload) (s : Sharing) → Holds w s → (x bit : ℕ) → x < length w.opening
+        → bit_at (slice_index w.opening x) bit + total (λ v. times_new x bit v.writes) s.views ≤ 1 }
 {}
 
 /// Whatever ran between: two endings of the same work that are settled have the same claimed files and the same flags. So

@@ -18,9 +18,12 @@ mod words;
 pub use closed::Closed;
 pub use flags::{AtomicFlagsRange, AtomicPerSymbolFlags, AtomicValueFlags};
 pub use gate::{Gate, OpenGate};
-pub use law::{any_interleaving, flags_only_grow, no_schedule_changes_the_end, no_store_will_do};
+pub use law::{
+    a_bit_is_new_once, any_interleaving, each_step_is_of_its_seat, flags_only_grow,
+    no_schedule_changes_the_end, no_store_will_do,
+};
 pub use link_closure::{Item, Mark, Workload};
 pub use plan::Plan;
 pub use state::{Begun, Claimed, Core, Marked, Step};
-pub use view::View;
+pub use view::{View, Written};
 pub use words::{Words, WorkSeat};

@@ -210,12 +210,25 @@ fn deal(
     Ok(jobs)
 }
 
+// A check by a seat of whose work nothing is known, but that it is of the same words as another.
+fn check_by(words: &Words<EightFiles>, known: &mut WorkSeat, seat: &mut WorkSeat) -> bool
+    requires known { known.old.table ≡ words.now }
+    requires work { known.old.view.work ≡ eight_files }
+    requires table { seat.old.table ≡ words.now }
+    ensures known { known.new ≡ known.old }
+    ensures table { seat.new.table ≡ seat.old.table }
+{
+    known.same_work(words, seat);
+    seat.check(words, 0)
+}
+
 // Takes all seats back, and adds up what was done.
 fn gather(words: &Words<EightFiles>, seat: &mut WorkSeat, mut jobs: Vec<Job>) -> Tally
     requires table { seat.old.table ≡ words.now }
+    requires work { seat.old.view.work ≡ eight_files }
     requires jobs { All (λ j. j.seat.table ≡ words.now) jobs.items }
     ensures table { seat.new.table ≡ seat.old.table }
-    ensures work { seat.new.view.work ≡ seat.old.view.work }
+    ensures work { seat.new.view.work ≡ eight_files }
 {
     let mut all = Tally {
         claims: 0,
@@ -224,10 +237,11 @@ fn gather(words: &Words<EightFiles>, seat: &mut WorkSeat, mut jobs: Vec<Job>) ->
     };
     while let Some(job) = jobs.pop() {
         let Job {
-            seat: other,
+            seat: mut other,
             tally,
             ..
         } = job;
+        let _claimed = check_by(words, seat, &mut other);
         seat.join(words, other);
         all.claims = all.claims.saturating_add(tally.claims);
         all.begins = all.begins.saturating_add(tally.begins);
@@ -412,6 +426,29 @@ fn read_three_files(words: &Words<ThreeFiles>, seat: &mut WorkSeat)
         .get_atomic(SymbolId::from_usize(0))
         .or_assign(seat, ValueFlags::DYNAMIC);
     seat.begin(words, 1);
+}
+
+// The flags that a mark of the second symbol found.
+fn found_by_mark(words: &Words<ThreeFiles>, seat: &mut WorkSeat) -> u32
+    requires table { seat.old.table ≡ words.now }
+    requires work { seat.old.view.work ≡ three_files }
+    ensures table { seat.new.table ≡ seat.old.table }
+    ensures work { seat.new.view.work ≡ three_files }
+{
+    let word = AtomicPerSymbolFlags::new(words).get_atomic(SymbolId::from_usize(1));
+    word.fetch_or(seat, ValueFlags::ABSOLUTE).bits()
+}
+
+#[test]
+fn a_mark_finds_what_was_there(rt: HostRuntime) -> Result<(), Fail> {
+    let (words, mut seat) = Words::create(rt.alloc(), &ThreeFiles)?;
+    let found = [
+        found_by_mark(&words, &mut seat),
+        found_by_mark(&words, &mut seat),
+    ];
+    words.close(seat);
+    assert_eq!(rt; found, [0, 1]);
+    Ok(())
 }
 
 // A worked example on the words: which files are claimed and which flags are left is known before it runs.

@@ -19,4 +19,15 @@ pub struct View {
     pub begins: LinkedList<usize>,
     /// Marks whose bits are known to be in their words.
     pub marks: LinkedList<Mark>,
+    /// Marks of which this seat saw a bit missing.
+    pub missed: LinkedList<Mark>,
+    /// Marks whose bits this seat wrote.
+    pub writes: LinkedList<Written>,
+}
+
+/// The bits of a mark were joined to its symbol's word.
+pub struct Written {
+    pub mark: Mark,
+    /// The flags that the step found.
+    pub found: u32,
 }

@@ -1,20 +1,21 @@
 //! The shared words, and the seats that threads step with.
-ghost use Rattle.std.specs.Prelude.{◌≡◌, ◌+◌, ◌<◌, ◌^◌, [], MatchBool, Contains, IfOk, IfSome};
+ghost use Rattle.std.specs.Prelude.{◌≡◌, ◌+◌, ◌<◌, ◌^◌, [], MatchBool, IsTrue, Contains, IfOk, IfSome};
 ghost use Rattle.std.specs.Bool.{OnTrue};
 ghost use Rattle.atomic_table.specs.Seated.{TableId};
 ghost use Rattle.link_claim.specs.Workload.{flag_base, word_count, opening_words_of};
-ghost use Rattle.link_claim.specs.Views.{first_view, spent_view, with_file, with_claim, with_item, with_begin, fresh, joined, MayRequest, MayBegin, saw_claim, took_claim, checked, took_begin};
+ghost use Rattle.link_closure.specs.declared.workload.Workload.{Workload};
+ghost use Rattle.link_claim.specs.Views.{no_work, first_view, spent_view, with_file, with_claim, with_item, with_begin, fresh, joined, MayRequest, MayBegin, saw_claim, took_claim, checked, took_begin, told_work};
 ghost use Rattle.link_claim.specs.Rule.{Holds};
 ghost use Rattle.link_claim.specs.Seats.{Place, IsPlaced};
 ghost use Rattle.link_claim.specs.Later.{IsLater};
 
 use crate::plan::Plan;
 use crate::view::View;
-use atomic_table::{Join, Play, Seat, Split, Table, TableRule};
+use atomic_table::{Join, Play, Seat, Shared, Split, Table, TableRule};
 use bitflags::Flags;
 use link_ids::SymbolId;
 use std::alloc::{AllocError, Global};
-use std::marker::{Model, PhantomData};
+use std::marker::{Brand, Model, PhantomData};
 
 // The rule that the words of a plan's work keep.
 pub(crate) struct Kept<P> {
@@ -50,6 +51,23 @@ struct TakeBegin;
 
 impl Play<(), View> for TakeBegin {
     ghost then = { took_begin };
+}
+
+// The work that a load tells of, which exists in proofs alone. Each call picks it.
+trait Told {
+    ghost work: { Workload };
+}
+
+impl Told for Brand {
+    ghost work = { no_work };
+}
+
+struct TellWork<B> {
+    told: PhantomData<B>,
+}
+
+impl<B: Told> Play<(), View> for TellWork<B> {
+    ghost then = { told_work B.work };
 }
 
 // How a seat is cut in two, and how two are made one.
@@ -122,6 +140,40 @@ impl<P: Plan> Words<P> {
         };
         Ok((Words { table }, seat))
     }
+}
+
+// Loads the spare word by a seat: its view names the plan's work.
+fn tell_work<B: Told, P: Plan>(shared: &Shared<(), View, P, Kept<P>>, seat: &mut Seat<(), View>)
+    requires table { seat.old.table_id ≡ shared.now.table_id }
+    requires word { 0 < shared.now.table_id.words }
+    requires live { IsTrue seat.old.me.0.live }
+    requires told { P.work shared.now.key ≡ B.work }
+    ensures table { seat.new.table_id ≡ seat.old.table_id }
+    ensures me { seat.new.me ≡ seat.old.me }
+    ensures work { seat.old.me.0.work ≡ B.work }
+{
+    shared.load::<TellWork<B>>(seat, 0);
+}
+
+// Loads the spare word by each of two seats: their views name one work, that of the plan.
+fn tell_one_work<P: Plan>(
+    shared: &Shared<(), View, P, Kept<P>>,
+    seat: &mut Seat<(), View>,
+    other: &mut Seat<(), View>,
+)
+    requires table { seat.old.table_id ≡ shared.now.table_id }
+    requires other { other.old.table_id ≡ shared.now.table_id }
+    requires word { 0 < shared.now.table_id.words }
+    requires live { IsTrue seat.old.me.0.live }
+    requires other_live { IsTrue other.old.me.0.live }
+    ensures table { seat.new.table_id ≡ seat.old.table_id }
+    ensures me { seat.new.me ≡ seat.old.me }
+    ensures other_table { other.new.table_id ≡ other.old.table_id }
+    ensures other_me { other.new.me ≡ other.old.me }
+    ensures work { other.old.me.0.work ≡ seat.old.me.0.work }
+{
+    tell_work::<Brand, P>(shared, seat);
+    tell_work::<Brand, P>(shared, other);
 }
 
 /// What one thread steps with: the right to step on the words, and what its holder knows and has done. It takes room for
@@ -232,15 +284,27 @@ impl WorkSeat {
         }
     }
 
+    /// Shows that two seats of the same words have the same work. It loads the spare word by each.
+    pub fn same_work<P: Plan>(&mut self, words: &Words<P>, other: &mut WorkSeat)
+        requires table { self.old.table ≡ words.now }
+        requires other { other.old.table ≡ words.now }
+        ensures same { self.new ≡ self.old }
+        ensures other { other.new ≡ other.old }
+        ensures work { other.old.view.work ≡ self.old.view.work }
+    {
+        tell_one_work(&words.table.shared, &mut self.seat, &mut other.seat);
+    }
+
     /// Takes the other seat back: this one then knows and has done what both did.
-    pub fn join<P: Plan>(&mut self, words: &Words<P>, other: WorkSeat)
+    pub fn join<P: Plan>(&mut self, words: &Words<P>, mut other: WorkSeat)
         requires table { self.old.table ≡ words.now }
         requires other { other.table ≡ words.now }
         ensures table { self.new.table ≡ self.old.table }
         ensures view { self.new.view ≡ joined self.old.view other.view }
         ensures later { IsLater self.old.view self.new.view }
-        ensures later_than_other { other.view.work ≡ self.old.view.work → IsLater other.view self.new.view }
+        ensures later_than_other { IsLater other.view self.new.view }
     {
+        self.same_work(words, &mut other);
         let WorkSeat { seat, .. } = other;
         words.table.shared.join_seat::<Pass>(&mut self.seat, seat);
     }

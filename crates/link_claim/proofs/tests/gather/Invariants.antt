@@ -1,10 +1,11 @@
 use Rattle.std.proofs.Common.{◌≡◌, All, vec_len}
+use Rattle.link_claim.specs.Examples.{eight_files}
 use Rattle.link_claim.proofs.tests.gather.Given as goal
 
 abbrev pub invariant-loop-job : goal.invariant-loop-job
 invariant-loop-job l = record {
   table : l.seat.table ≡ l.initial.seat.table;
-  work : l.seat.view.work ≡ l.initial.seat.view.work;
+  work : l.seat.view.work ≡ eight_files;
   jobs : All (λ j. j.seat.table ≡ l.words) l.jobs.items;
 }
 

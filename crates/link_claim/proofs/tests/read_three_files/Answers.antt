@@ -8,6 +8,7 @@ use Rattle.link_closure.specs.Workload.{HasItem, Requests, Marks, IsRoot}
 use Rattle.link_claim.specs.Views.{MayMark}
 use Rattle.link_claim.specs.Later.{HasRead, HasReadAll}
 use Rattle.link_claim.specs.Examples.{mark, three_files, item0, item1, item2}
+use Rattle.link_claim.proofs.Later.{after_mark}
 use Rattle.link_closure.proofs.Joins.{contains_here, contains_later, contains_cases, contains_none}
 use Rattle.link_claim.proofs.tests.read_three_files.Goals as goal
 
@@ -76,7 +77,10 @@ begin-requires-2-clause-may c =
     (item1, subst (λ (w : Workload). HasItem w 1 item1) (sym work) refl, c.or_assign-2.ensures.later.known 1 c.request-2.ensures.known)
 
 pub returns-clause-known : goal.returns-clause-known
-returns-clause-known c = search rules
+returns-clause-known c =
+    let first = (after_mark _ c.or_assign.ensures.view.0 c.request.new.self.view c.or_assign.new.seat.view c.or_assign.ensures.view.1).2 in
+    let second = (after_mark _ c.or_assign-2.ensures.view.0 c.request-2.new.self.view c.or_assign-2.new.seat.view c.or_assign-2.ensures.view.1).2 in
+    search (rules, first, second)
 
 pub returns-clause-read : goal.returns-clause-read
 returns-clause-read c =

@@ -9,8 +9,8 @@ use Rattle.link_claim.proofs.words.WorkSeat.join.Goals as goal
 
 pub join_seat-requires : goal.join_seat-requires
 join_seat-requires g c =
-    let table = ap (λ (p : Place). p.table) c.self.view_is ∙ c.requires.table ∙ sym c.words.view_is in
-    let other = ap (λ (p : Place). p.table) c.other.view_is ∙ c.requires.other ∙ sym c.words.view_is in
+    let table = ap (λ (p : Place). p.table) (c.self.view_is ∙ c.same_work.ensures.same) ∙ c.requires.table ∙ sym c.words.view_is in
+    let other = ap (λ (p : Place). p.table) (c.other.view_is ∙ c.same_work.ensures.other) ∙ c.requires.other ∙ sym c.words.view_is in
     (table, other, c.other.invariant.0, subst (λ z. 0 < z.words) table (some_word _ _ _ _ c.self.invariant.1), merges _ _ _ _ _ c.self.invariant.1.live)
 
 pub returns-clause-view : goal.returns-clause-view
@@ -20,4 +20,4 @@ pub returns-clause-later : goal.returns-clause-later
 returns-clause-later g c = subst (IsLater c.args.self.now.view) (sym (returns-clause-view g c)) (joined_left c.args.self.now.view c.args.other.view)
 
 pub returns-clause-later_than_other : goal.returns-clause-later_than_other
-returns-clause-later_than_other g c same = subst (IsLater c.args.other.view) (sym (returns-clause-view g c)) (joined_right c.args.self.now.view c.args.other.view same)
+returns-clause-later_than_other g c = subst (IsLater c.args.other.view) (sym (returns-clause-view g c)) (joined_right c.args.self.now.view c.args.other.view c.same_work.ensures.work)
