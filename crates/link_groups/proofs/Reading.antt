@@ -4,10 +4,10 @@ use Rattle.std.specs.Prelude.{option_map}
 use Rattle.std.specs.Option.{option_and_then}
 use Rattle.link_ids.specs.Span.{IsInside, offset_in}
 use Rattle.link_flags.specs.declared.strength.SymbolStrength.TheVariants.{Undefined}
-use Rattle.link_input.specs.InputFiles.{symbol_count}
 use Rattle.link_input.specs.Symbols.{Symbol, binding_strength, in_prelude, in_script, in_stub, strength_at, stub_strength, symbol_of, version_at}
 use Rattle.link_groups.specs.declared.sequenced_input.SequencedInput.{SequencedInput}
 use Rattle.link_groups.specs.declared.sequenced_input.SequencedInput.TheVariants as input
+use Rattle.link_groups.specs.Asked.{AreIdsOf}
 use Rattle.link_groups.specs.SequencedInputs.{sequenced_file}
 
 pub get-map : {A B C : Type 0} (f : B → C) (g : A → B) (xs : List A) (i : ℕ) → option_map f (slice_get (map g xs) i) ≡ option_map (λ x. f (g x)) (slice_get xs i)
@@ -34,14 +34,14 @@ IsLinkers (input.StubLibrary stub) = ⊥
 IsLinkers (input.SyntheticSymbols synthetic) = Unit {0}
 
 -- its symbols count as undefined
-pub strength-linkers : {P : Type 0} (f : SequencedInput P) (id : ℕ) → (sequenced_file f).symbols.len ≡ symbol_count (sequenced_file f).file → IsInside (sequenced_file f).symbols id → IsLinkers f → strength_at (sequenced_file f).file (offset_in (sequenced_file f).symbols id) ≡ Some Undefined
+pub strength-linkers : {P : Type 0} (f : SequencedInput P) (id : ℕ) → AreIdsOf (sequenced_file f).file (sequenced_file f).symbols.len → IsInside (sequenced_file f).symbols id → IsLinkers f → strength_at (sequenced_file f).file (offset_in (sequenced_file f).symbols id) ≡ Some Undefined
 strength-linkers (input.Prelude prelude) id table inside is =
     get-same (λ (x : Symbol). binding_strength x.origin) (λ d. symbol_of d.name (in_prelude d)) Undefined prelude.now (id - 0) (λ d. refl) (omega (arith, table, inside.0, inside.1))
 strength-linkers (input.Object object) id table inside is = absurd is
 strength-linkers (input.LinkerScript script) id table inside is =
     get-same (λ (x : Symbol). binding_strength x.origin) (λ d. symbol_of d.name (in_script d)) Undefined script.now.parsed.symbol_defs (id - script.now.symbol_id_range.start) (λ d. refl) (omega (arith, table, inside.0, inside.1))
 strength-linkers (input.StubLibrary stub) id table inside is = absurd is
-strength-linkers (input.SyntheticSymbols synthetic) id table inside is = absurd (omega (arith, table, inside.0, inside.1))
+strength-linkers (input.SyntheticSymbols synthetic) id table inside is = refl
 
 -- a file that is no object
 abbrev pub IsNoObject : {P : Type 0} → SequencedInput P → Type 0

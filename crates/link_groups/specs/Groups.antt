@@ -13,25 +13,29 @@ use Rattle.link_input.specs.InputFiles.{prelude, object, linker_script, stub_lib
 use Rattle.link_input.specs.Limits.{total}
 use Rattle.link_input.specs.SequencedFiles.{SequencedFile, no_sections}
 
--- each kind of file, without its file id
-abbrev pub prelude_file : List InternalSymDefInfo → SequencedFile
-prelude_file symbols = record { file = prelude symbols; symbols = record { start = 0; len = length symbols }; sections = no_sections }
+-- the prelude with the ids of its symbols, which are the first ones
+abbrev pub sequenced_prelude : List InternalSymDefInfo → SequencedFile
+sequenced_prelude symbols = record { file = prelude symbols; symbols = record { start = 0; len = length symbols }; sections = no_sections }
 
+-- an object with its ids, but for that of the file
 abbrev pub object_file : {P : Type 0} → SequencedInputObject P → SequencedFile
 object_file o = record { file = object o.parsed; symbols = o.symbol_id_range; sections = o.section_id_range }
 
+-- a linker script with its ids
 abbrev pub script_file : SequencedLinkerScript → SequencedFile
 script_file s = record { file = linker_script s.parsed; symbols = s.symbol_id_range; sections = no_sections }
 
+-- a stub library with its ids
 abbrev pub stub_file : SequencedStubLibrary → SequencedFile
 stub_file s = record { file = stub_library s.input s.defined_symbols; symbols = s.symbol_id_range; sections = no_sections }
 
+-- the file of the start and stop symbols with its ids
 abbrev pub synthetic_file : SyntheticSymbols → SequencedFile
 synthetic_file s = record { file = synthetic; symbols = s.symbol_id_range; sections = no_sections }
 
 -- the files of a group, in order
 abbrev pub files_of : {P : Type 0} → Group P → List SequencedFile
-files_of (group.Prelude symbols) = prelude_file symbols ∷ []
+files_of (group.Prelude symbols) = sequenced_prelude symbols ∷ []
 files_of (group.Objects objects) = map object_file objects
 files_of (group.LinkerScripts scripts) = map script_file scripts
 files_of (group.StubLibraries stubs) = map stub_file stubs

@@ -90,8 +90,8 @@ fn groups_within_limits<P: Platform>(
 /// Puts a batch of inputs into groups, which are read side by side: the objects, at most `files_per_group` of them in a group and
 /// only so many as give each worker several groups; the linker scripts; and the stub libraries, where there are any. The groups
 /// follow those of `held`, the groups of earlier batches with the same options, all in order; before the first batch there is
-/// none, and its groups begin with the prelude's. The ids of files, symbols and sections run on over all batches, and those of
-/// symbols and sections are the same for any number of workers.
+/// none, and its groups begin with the prelude's. A link has at most 256 batches, so fewer may be held. The ids of files, symbols
+/// and sections run on over all batches, and those of symbols and sections are the same for any number of workers.
 ///
 /// It is refused with `TooMany` where the link has, with the batches before, more of some kind than ids can name, and with
 /// `Memory`.

@@ -3,6 +3,7 @@ ghost use Rattle.std.specs.Prelude.{◌≡◌, Some, option_map};
 ghost use Rattle.link_ids.specs.Span.{IsInside, offset_in};
 ghost use Rattle.link_input.specs.InputFiles.{is_optional_file, is_shared_file, symbol_count};
 ghost use Rattle.link_input.specs.Symbols.{name_at, section_at, strength_at, version_at};
+ghost use Rattle.link_groups.specs.Asked.{AreIdsOf};
 ghost use Rattle.link_groups.specs.SequencedInputs.{sequenced_file};
 
 use crate::sequenced::{
@@ -42,7 +43,7 @@ impl<P: Platform> SequencedInput<'_, P> {
 
     /// The version of a symbol of the file, where it has one: only objects' symbols have.
     pub fn symbol_version_debug(&self, id: SymbolId) -> Option<&Name>
-        requires table { (sequenced_file self.now).symbols.len ≡ symbol_count (sequenced_file self.now).file }
+        requires table { AreIdsOf (sequenced_file self.now).file (sequenced_file self.now).symbols.len }
         requires inside { IsInside (sequenced_file self.now).symbols id }
         ensures { option_map (λ name. name.now) result ≡ version_at (sequenced_file self.now).file (offset_in (sequenced_file self.now).symbols id) }
     {
@@ -82,25 +83,27 @@ impl<P: Platform> SequencedInput<'_, P> {
         }
     }
 
-    /// How strongly a symbol of the file binds: those of the prelude and of linker scripts count as undefined.
+    /// How strongly a symbol of the file binds: those of the prelude and of linker scripts, and the start and stop symbols,
+    /// count as undefined.
     pub fn input_symbol_strength(&self, id: SymbolId) -> SymbolStrength
-        requires table { (sequenced_file self.now).symbols.len ≡ symbol_count (sequenced_file self.now).file }
+        requires table { AreIdsOf (sequenced_file self.now).file (sequenced_file self.now).symbols.len }
         requires inside { IsInside (sequenced_file self.now).symbols id }
         ensures { strength_at (sequenced_file self.now).file (offset_in (sequenced_file self.now).symbols id) ≡ Some result }
     {
         match self {
             SequencedInput::Object(object) => object.input_symbol_strength(id),
             SequencedInput::StubLibrary(stub) => stub.input_symbol_strength(id),
-            SequencedInput::Prelude(_)
-            | SequencedInput::LinkerScript(_)
-            | SequencedInput::SyntheticSymbols(_) => SymbolStrength::Undefined,
+            SequencedInput::Prelude(_) | SequencedInput::LinkerScript(_) => {
+                SymbolStrength::Undefined
+            }
+            SequencedInput::SyntheticSymbols(_) => SymbolStrength::Undefined,
         }
     }
 
     /// The id of the section that a symbol of the file stands in: none where it stands in no section, in a shared object, or
     /// in no object.
     pub fn input_section_id_for_symbol(&self, id: SymbolId) -> Option<InputSectionId>
-        requires table { (sequenced_file self.now).symbols.len ≡ symbol_count (sequenced_file self.now).file }
+        requires table { AreIdsOf (sequenced_file self.now).file (sequenced_file self.now).symbols.len }
         requires inside { IsInside (sequenced_file self.now).symbols id }
         ensures { result ≡ section_at (sequenced_file self.now).file (sequenced_file self.now).sections (offset_in (sequenced_file self.now).symbols id) }
     {

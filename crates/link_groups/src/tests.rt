@@ -301,31 +301,3 @@ fn limits_count_both_batches(rt: HostRuntime) -> Result<(), Fail> {
     );
     Ok(())
 }
-
-#[test]
-fn definitions_are_built_one_by_one(rt: HostRuntime) -> Result<(), Fail> {
-    let alloc = rt.alloc();
-    let mut builder = InternalSymbolsBuilder::new(alloc);
-    builder.section_start(1, Name::from_slice(alloc, b"start")?)?;
-    builder.section_end(1, Name::from_slice(alloc, b"end")?)?;
-    builder
-        .section_group_end(1, Name::from_slice(alloc, b"group_end")?)?
-        .hide();
-    builder.platform_specific(Name::from_slice(alloc, b"base")?)?;
-    let undefined = InternalSymDefInfo::new(
-        SymbolPlacement::LoadBaseAddress,
-        Name::from_slice(alloc, b"load")?,
-    );
-    builder.add_symbol(undefined)?.hide();
-    let mut text = String::new(alloc);
-    for definition in builder.definitions() {
-        let name = &definition.name;
-        let hidden = definition.hidden;
-        text.push_str(format!(in alloc; "{name} {hidden};")?.as_str())?;
-    }
-    assert_eq!(rt;
-        text.as_str(),
-        "start false;end false;group_end true;base false;load true;"
-    );
-    Ok(())
-}

@@ -28,6 +28,7 @@ lacks_null has_null (e ∷ es) = has_null && not (is_null e)
 abbrev pub is_undefined_local : Bool → ℕ → SymbolEntry → Bool
 is_undefined_local has_null i e = is_undefined e.place && is_local e.binding && not (has_null && (i == 0))
 
+-- without a version, and yet not default
 abbrev pub is_versionless_not_default : SymbolEntry → Bool
 is_versionless_not_default e = is_none e.version && not e.is_default
 

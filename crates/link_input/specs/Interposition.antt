@@ -7,6 +7,7 @@ use Rattle.link_input.specs.declared.options.OutputKind.{OutputKind}
 use Rattle.link_input.specs.Entries.{is_undefined, is_local}
 use Rattle.link_input.specs.Outputs.{is_shared_object}
 
+-- neither hidden nor protected
 abbrev pub is_default_visibility : Visibility → Bool
 is_default_visibility Default = true
 is_default_visibility Protected = false

@@ -110,8 +110,9 @@ name_at f i = option_map (λ (x : Symbol). x.name) (symbol_at f i)
 abbrev pub version_at : InputFile → ℕ → Option (List ℕ)
 version_at f i = option_and_then (λ (x : Symbol). x.version) (symbol_at f i)
 
--- how strongly it binds
+-- how strongly it binds; the start and stop symbols that the linker adds behind all files yield to all others
 abbrev pub strength_at : InputFile → ℕ → Option SymbolStrength
+strength_at synthetic i = Some Undefined
 strength_at f i = option_map (λ (x : Symbol). binding_strength x.origin) (symbol_at f i)
 
 -- the id of the section that it stands in

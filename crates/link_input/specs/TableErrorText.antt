@@ -3,6 +3,7 @@ use Rattle.std.specs.Prelude.{ℕ, List, ◌++◌, codes, decimal}
 use Rattle.link_input.specs.declared.table_error.TableError.{TableError}
 use Rattle.link_input.specs.declared.table_error.TableError.TheVariants.{NullEntry, UndefinedLocal, VersionlessNotDefault, SectionRange, SignatureRange, MemberRange, HeaderTwice, HeaderIsMember, Memory}
 
+-- the text of each fault, which tells symbols and groups by their places from 0
 abbrev pub table_error_text : TableError → List ℕ
 table_error_text NullEntry = codes "entry 0 is not null"
 table_error_text (UndefinedLocal i) = codes "symbol " ++ decimal i ++ codes " is undefined and local"

@@ -1,5 +1,5 @@
 -- What a source still has, and what a sink has taken; either may not tell.
-use Rattle.std.specs.Prelude.{◌≡◌, ◌⊎◌, ℕ, ◌<◌, ◌≤◌, ◌^◌, ◌-◌, List, [], ◌++◌, length, take, Option, Some, None}
+use Rattle.std.specs.Prelude.{◌≡◌, ◌⊎◌, ℕ, ◌+◌, ◌<◌, ◌≤◌, ◌^◌, ◌-◌, min, List, [], ◌++◌, length, take, Option, Some, None}
 
 -- these bytes were handed over, from the front of what was left
 abbrev pub Gives : Option (List ℕ) → Option (List ℕ) → List ℕ → Type 0
@@ -39,3 +39,21 @@ TakesPart before after bytes = (count : ℕ) × (count < length bytes) × Takes 
 -- a count of faults grew, or stands at its greatest
 abbrev pub Rose : ℕ → ℕ → Type 0
 Rose before after = (before < after) ⊎ (after ≡ 2 ^ 64 - 1)
+
+-- a count after one more; it stands still at the greatest u64
+abbrev pub raised : ℕ → ℕ
+raised count = min (count + 1) (2 ^ 64 - 1)
+
+-- one call came, where the source tells
+abbrev pub IsCalledOnce : Option ℕ → Option ℕ → Type 0
+IsCalledOnce None None = Unit {0}
+IsCalledOnce None (Some after) = ⊥
+IsCalledOnce (Some before) None = ⊥
+IsCalledOnce (Some before) (Some after) = after ≡ raised before
+
+-- no more than so many calls came, where the source tells
+abbrev pub IsCalledAtMost : Option ℕ → Option ℕ → ℕ → Type 0
+IsCalledAtMost None None most = Unit {0}
+IsCalledAtMost None (Some after) most = ⊥
+IsCalledAtMost (Some before) None most = ⊥
+IsCalledAtMost (Some before) (Some after) most = after ≤ before + most

@@ -6,8 +6,7 @@ ghost use Rattle.std.specs.Prelude.{◌≡◌, ◌≢◌, ◌<◌, ◌≤◌, le
 ghost use Rattle.std.specs.IoError.{error_kind};
 ghost use Rattle.std.specs.Io.{ReadsAtMost, WritesAtMost};
 ghost use Rattle.std.specs.Io.KnownBytes.{ReadConsumes, WriteAppends, Consumes, Appends, Keeps, IsAtEnd};
-ghost use Rattle.link_streams.specs.Memory.{raised};
-ghost use Rattle.link_streams.specs.Streams.{Rose};
+ghost use Rattle.link_streams.specs.Streams.{raised, Rose};
 
 use crate::stream::{Failed, Sink, Source};
 use std::io::{self, ErrorKind, Read, Write};
@@ -71,6 +70,8 @@ impl<T: Read> Source for RealSource<T> {
     ghost left = { λ _. None };
 
     ghost faults = { λ s. s.faults };
+
+    ghost calls = { λ _. None };
 
     fn read(&mut self, buf: &mut [u8]) -> Result<usize, Failed>
         requires { 0 < length buf.old }

@@ -1,6 +1,6 @@
 // What a source and a sink are.
 ghost use Rattle.std.specs.Prelude.{◌≡◌, ◌<◌, ◌≤◌, ℕ, List, length, take, Option, IfOk, OnOk, OnErr};
-ghost use Rattle.link_streams.specs.Streams.{Gives, IsAtEnd, Takes, Rose};
+ghost use Rattle.link_streams.specs.Streams.{Gives, IsAtEnd, Takes, Rose, IsCalledOnce};
 
 /// A call of a source or a sink failed, and its count of faults rose.
 #[derive(Clone, Copy, Debug, PartialEq, Eq, thiserror::Error)]
@@ -15,6 +15,9 @@ pub trait Source {
     /// How often it has failed.
     ghost faults: { Self → ℕ };
 
+    /// How many calls came, where the source tells it. Whether it tells is kept by each call.
+    ghost calls: { Self → Option ℕ };
+
     /// Hands over the next bytes at the front of a buffer that isn't empty, and answers how many
     /// they are; 0 is the end.
     fn read(&mut self, buf: &mut [u8]) -> Result<usize, Failed>
@@ -26,7 +29,8 @@ pub trait Source {
         ensures unharmed { OnOk result (faults self.new ≡ faults self.old) }
         ensures failed { OnErr result (Rose (faults self.old) (faults self.new)) }
         ensures kept { OnErr result (left self.new ≡ left self.old) }
-        ensures never_falls { faults self.old ≤ faults self.new };
+        ensures never_falls { faults self.old ≤ faults self.new }
+        ensures counted { IsCalledOnce (calls self.old) (calls self.new) };
 }
 
 /// Something that bytes are written to, as standard output.

@@ -1,6 +1,6 @@
 // What no clause says: that each call succeeds with ample memory. The contracts do the rest; here
 // each way in which bytes come and go is run once.
-use crate::{MemorySink, MemorySource, ReadAllError, SteadySource, read_all, write_all};
+use crate::{Failed, MemorySink, MemorySource, ReadAllError, SteadySource, read_all, write_all};
 use std::alloc::{AllocError, Global};
 use std::test::Fail;
 
@@ -33,8 +33,10 @@ fn all_of_a_source_is_read(rt: HostRuntime) -> Result<(), Fail> {
         }
     }
     let long = numbered(alloc, 1_000_000)?;
-    let mut source = SteadySource::new(long.clone()?, 100_000);
+    let mut source = MemorySource::new(long.clone()?, 100_000, Vec::new(alloc));
     assert!(rt; read_all(alloc, &mut source, 1_000_000) == Ok(long));
+    // Each call asks for 64 KiB, or for what is left and a byte: 16 calls, and one at the end.
+    assert_eq!(rt; source.calls(), 17);
     Ok(())
 }
 
@@ -83,11 +85,28 @@ fn each_call_of_a_sink_may_fail(rt: HostRuntime) -> Result<(), Fail> {
         );
     }
     for piece in 1usize..14 {
-        let mut sink = MemorySink::new(alloc, piece, Vec::new(alloc));
+        let mut sink = MemorySink::with_capacity(alloc, 12, piece, Vec::new(alloc))?;
         assert!(rt; write_all(&mut sink, &bytes).is_ok(), "pieces of {piece}");
         assert!(rt; sink.taken() == bytes.as_slice(), "pieces of {piece}");
     }
     let mut sink = MemorySink::new(alloc, 5, vec![in alloc; 1]?);
     assert!(rt; write_all(&mut sink, b"").is_ok(), "nothing needs no call");
+    Ok(())
+}
+
+#[test]
+fn errors_have_texts(rt: HostRuntime) -> Result<(), Fail> {
+    let alloc = rt.alloc();
+    assert_eq!(rt;
+        format!(in alloc; "{}", Failed)?.as_str(),
+        "the stream failed"
+    );
+    for (error, text) in [
+        (ReadAllError::TooLong, "more bytes than allowed"),
+        (ReadAllError::ReadFault, "read fault"),
+        (ReadAllError::Memory, "out of memory"),
+    ] {
+        assert_eq!(rt; format!(in alloc; "{error}")?.as_str(), text);
+    }
     Ok(())
 }

@@ -1,7 +1,7 @@
 // All of a source, and all of a text.
 ghost use Rattle.std.specs.Prelude.{◌≡◌, ◌+◌, ◌<◌, ◌≤◌, length, IfOk, OnOk, OnErr, IfSome, IsErrOf};
 ghost use Rattle.link_streams.specs.declared.whole.ReadAllError.TheVariants.{ReadFault, Memory};
-ghost use Rattle.link_streams.specs.Streams.{Gives, GivesPart, GivesAtMost, GivesCount, IsAtEnd, Takes, TakesPart, Rose};
+ghost use Rattle.link_streams.specs.Streams.{Gives, GivesPart, GivesAtMost, GivesCount, IsAtEnd, Takes, TakesPart, Rose, IsCalledAtMost};
 
 use crate::stream::{Failed, Sink, Source};
 use std::alloc::{AllocError, Global};
@@ -40,7 +40,8 @@ impl From<Failed> for ReadAllError {
 }
 
 /// All that a source has left, which are at most `limit` bytes. After an error the source has
-/// handed over some of its bytes. No answer takes more than `limit + 1` of them.
+/// handed over some of its bytes. No answer takes more than `limit + 1` of them, or more calls
+/// than that: each call but the last gives a byte at least.
 pub fn read_all<S: Source>(
     alloc: Global,
     source: &mut S,
@@ -57,6 +58,8 @@ pub fn read_all<S: Source>(
     ensures no_further { GivesAtMost (S.left source.old) (S.left source.new) (limit + 1) }
     ensures unharmed { OnOk result (S.faults source.new ≡ S.faults source.old) }
     ensures never_falls { S.faults source.old ≤ S.faults source.new }
+    ensures calls_on_ok { IfOk result (λ bytes. IsCalledAtMost (S.calls source.old) (S.calls source.new) (length bytes.items + 1)) }
+    ensures calls { IsCalledAtMost (S.calls source.old) (S.calls source.new) (limit + 1) }
 {
     let mut bytes = Vec::new(alloc);
     let mut piece = [0u8; PIECE];
