@@ -12,6 +12,7 @@ IsEdge edges f g = Contains edges (record { from = f; to = g })
 abbrev pub AreInRange : ℕ → List Edge → Type 0
 AreInRange count edges = All (λ e. (e.from < count) × (e.to < count)) edges
 
+-- a row for each number: those to which it leads
 abbrev pub Graph : Type 0
 Graph = List (Vec ℕ Global)
 

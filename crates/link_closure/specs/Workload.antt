@@ -5,6 +5,7 @@ use Rattle.link_closure.specs.declared.workload.Mark.{Mark}
 use Rattle.link_closure.specs.declared.workload.Item.{Item}
 use Rattle.link_closure.specs.declared.workload.Workload.{Workload}
 
+-- the item of the number i
 abbrev pub HasItem : Workload → ℕ → Item → Type 0
 HasItem w i it = slice_get w.items i ≡ Some it
 

@@ -32,7 +32,7 @@ fn flags_and_visibilities_compare(rt: HostRuntime) {
     );
 }
 
-const FLAG_NAMES: [&str; 22] = [
+const FLAG_NAMES: &[&str] = &[
     "ABSOLUTE",
     "DYNAMIC",
     "IFUNC",
@@ -60,7 +60,7 @@ const FLAG_NAMES: [&str; 22] = [
 #[test]
 fn flags_have_their_bits_and_names(rt: HostRuntime) -> Result<(), Fail> {
     let mut bit = 1u32;
-    for name in FLAG_NAMES {
+    for &name in FLAG_NAMES {
         shows(&rt, rt.alloc(), &ValueFlags::from_bits_truncate(bit), name)?;
         bit = bit.wrapping_mul(2);
     }

@@ -4,9 +4,11 @@ use Rattle.std.specs.List.{list_any}
 use Rattle.link_glob.specs.declared.analyze.GlobPatternType.{GlobPatternType}
 use Rattle.link_glob.specs.declared.analyze.GlobPatternType.TheVariants.{Exact, EscapedExact, Star, NonStar}
 
+-- a backslash
 abbrev pub is_backslash : ℕ → Bool
 is_backslash byte = byte == 92
 
+-- a star
 abbrev pub is_star : ℕ → Bool
 is_star byte = byte == 42
 

@@ -15,6 +15,7 @@ Compiles dialect bytes (Err errors.InvalidUtf8) = ¬ (IsUtf8 bytes)
 Compiles dialect bytes (Err errors.InvalidGlob) = IsUtf8 bytes × ((tokens : List GlobToken) → IsPatternText dialect bytes tokens → ⊥)
 Compiles dialect bytes (Err errors.Memory) = Unit {0}
 
+-- these tokens, or the refusal of a text that has none
 abbrev pub or_invalid : Option (List GlobToken) → Result (List GlobToken) GlobError
 or_invalid None = Err errors.InvalidGlob
 or_invalid (Some tokens) = Ok tokens

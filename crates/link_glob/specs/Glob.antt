@@ -18,6 +18,7 @@ view_token tokens.One = one
 view_token tokens.Any = any
 view_token (tokens.Class k) = class k.negated k.ranges.items
 
+-- tokens without where they lie in memory
 abbrev pub views : List Token → List GlobToken
 views ts = map view_token ts
 
@@ -46,6 +47,7 @@ abbrev pub some_end : (List ℕ → Bool) → List ℕ → Bool
 some_end p [] = p []
 some_end p (c ∷ name) = p (c ∷ name) || some_end p name
 
+-- the token takes the first character of the name, and the rest of the name passes
 abbrev pub takes_first : GlobToken → (List ℕ → Bool) → List ℕ → Bool
 takes_first token rest [] = false
 takes_first token rest (c ∷ name) = takes token c && rest name
@@ -57,5 +59,6 @@ glob_matches [] (c ∷ name) = false
 glob_matches (any ∷ rest) name = some_end (λ n. glob_matches rest n) name
 glob_matches (token ∷ rest) name = takes_first token (λ n. glob_matches rest n) name
 
+-- the same, which a proof opens only where it says so
 unfoldable pub does_match : List GlobToken → List ℕ → Bool
 does_match pattern name = glob_matches pattern name

@@ -8,6 +8,7 @@ use Rattle.link_glob.specs.declared.compile.Dialect.TheVariants.{Gnu, MachO}
 use Rattle.link_glob.specs.declared.pattern.CharRange.{CharRange}
 use Rattle.link_glob.specs.Glob.{GlobToken, literal, one, any, class}
 
+-- a range by its ends
 abbrev pub range : ℕ → ℕ → CharRange
 range a b = record { first = a; last = b }
 
@@ -22,6 +23,7 @@ ranges_of (a ∷ b ∷ c ∷ rest) = if b == 45 then range a c ∷ ranges_of res
 abbrev pub is_plain : ℕ → Bool
 is_plain c = not (c == 42 || c == 63 || c == 91)
 
+-- what a class begins with, negated or not
 abbrev pub opening : Bool → List ℕ
 opening true = 91 ∷ 33 ∷ []
 opening false = 91 ∷ []

@@ -9,6 +9,7 @@ use Rattle.link_glob.specs.Glob.{GlobToken, literal, one, any, class, glob_match
 use Rattle.link_glob.specs.Grammar.{range, Spells, with_marks}
 use Rattle.link_glob.specs.Reading.{tokens_of}
 
+-- a byte that a pattern would read otherwise than as itself
 abbrev pub is_special : ℕ → Bool
 is_special byte = is_backslash byte || is_star byte || is_other_special byte
 
@@ -33,14 +34,17 @@ HasOnePattern = (dialect : Dialect) (text : List ℕ) (p q : List GlobToken) →
 abbrev pub GnuIsMachO : Type 0
 GnuIsMachO = (text : List ℕ) (pattern : List GlobToken) → Spells Gnu pattern text → Spells MachO pattern text
 
+-- How some patterns have to be compared.
 abbrev pub KindExamples : Type 0
 KindExamples =
     (pattern_type (codes "foo\\*bar") ≡ EscapedExact) × (pattern_type (codes "foo]") ≡ NonStar)
     × (pattern_type (codes "a\\*b*") ≡ Star) × (pattern_type (codes "foo") ≡ Exact)
 
+-- Some patterns without their backslashes.
 abbrev pub UnescapingExamples : Type 0
 UnescapingExamples = (unescaped (codes "foo\\*bar") ≡ codes "foo*bar") × (unescaped (codes "a\\") ≡ codes "a\\")
 
+-- The tokens of some texts, and texts that have none.
 abbrev pub ReadingExamples : Type 0
 ReadingExamples =
     (tokens_of Gnu (codes "a*?") ≡ Some (literal 97 ∷ any ∷ one ∷ []))
@@ -51,6 +55,7 @@ ReadingExamples =
     × (tokens_of MachO (codes "[]*]**") ≡ tokens_of Gnu (codes "[]*]*"))
     × (with_marks (codes "[^a[^]") ≡ codes "[!a[!]")
 
+-- Names that fit some patterns, and names that do not.
 abbrev pub MatchingExamples : Type 0
 MatchingExamples =
     (glob_matches (any ∷ literal 97 ∷ any ∷ literal 98 ∷ []) (codes "xaab") ≡ true)

@@ -2,20 +2,22 @@ use super::*;
 use std::alloc::AllocError;
 use std::test::*;
 
+const KINDS: &[(&[u8], GlobPatternType)] = &[
+    (b"foo", GlobPatternType::Exact),
+    (b"", GlobPatternType::Exact),
+    (b"foo\\*bar", GlobPatternType::EscapedExact),
+    (b"a\\", GlobPatternType::EscapedExact),
+    (b"foo]", GlobPatternType::NonStar),
+    (b"f\\?[o]", GlobPatternType::NonStar),
+    (b"a?\\*", GlobPatternType::NonStar),
+    (b"a\\*b*", GlobPatternType::Star),
+    (b"[a]*", GlobPatternType::Star),
+    (b"\\\\*", GlobPatternType::Star),
+];
+
 #[test]
 fn kinds_of_patterns(rt: HostRuntime) {
-    for (pattern, kind) in [
-        (b"foo".as_slice(), GlobPatternType::Exact),
-        (b"", GlobPatternType::Exact),
-        (b"foo\\*bar", GlobPatternType::EscapedExact),
-        (b"a\\", GlobPatternType::EscapedExact),
-        (b"foo]", GlobPatternType::NonStar),
-        (b"f\\?[o]", GlobPatternType::NonStar),
-        (b"a?\\*", GlobPatternType::NonStar),
-        (b"a\\*b*", GlobPatternType::Star),
-        (b"[a]*", GlobPatternType::Star),
-        (b"\\\\*", GlobPatternType::Star),
-    ] {
+    for &(pattern, kind) in KINDS {
         assert_eq!(rt; analyze_glob_pattern(pattern), kind, "{pattern:?}");
     }
 }
@@ -41,45 +43,47 @@ fn compile(rt: &HostRuntime, macho: bool, pattern: &[u8]) -> Result<Pattern, Glo
     }
 }
 
+const FITTED: &[(bool, &[u8], &str, bool)] = &[
+    (false, b"a*b", "ab", true),
+    (false, b"a*b", "axyb", true),
+    (false, b"a*b", "axyc", false),
+    (false, b"a*b", "axybc", false),
+    (false, b"*ab*ab", "abab", true),
+    (false, b"*ab*ab", "ab", false),
+    (false, b"", "", true),
+    (false, b"", "a", false),
+    (false, b"a?c", "a.c", true),
+    (false, b"a?c", "ac", false),
+    (false, b"\xc3\xa4?", "\u{e4}\u{fc}", true),
+    (false, b"a", "A", false),
+    (false, b"a\\*", "a\\b", true),
+    (false, b"a\\*", "a*", false),
+    (false, b"a]b", "a]b", true),
+    (false, b"[a-cx]", "b", true),
+    (false, b"[a-cx]", "x", true),
+    (false, b"[a-cx]", "d", false),
+    (false, b"[c-a]", "b", false),
+    (false, b"[a-]", "-", true),
+    (false, b"[!a-c]", "d", true),
+    (false, b"[!a-c]", "b", false),
+    (false, b"[^a-c]", "d", true),
+    (false, b"[^a-c]", "b", false),
+    (false, b"[!]]", "]", false),
+    (false, b"[[^]", "!", true),
+    (false, b"[[^]", "^", false),
+    (false, b"a/*", "a/b/.c", true),
+    (true, b"a**b", "axyb", true),
+    (true, b"a**b", "axyc", false),
+    (true, b"***", "", true),
+    (true, b"[]*]**", "]x", true),
+    (true, b"[]*]**", "*", true),
+    (true, b"[]*]**", "x", false),
+    (true, b"[^**]", "*", false),
+];
+
 #[test]
 fn names_that_patterns_fit(rt: HostRuntime) -> Result<(), Fail> {
-    for (macho, pattern, name, fits) in [
-        (false, "a*b".as_bytes(), "ab", true),
-        (false, b"a*b", "axyb", true),
-        (false, b"a*b", "axyc", false),
-        (false, b"a*b", "axybc", false),
-        (false, b"*ab*ab", "abab", true),
-        (false, b"*ab*ab", "ab", false),
-        (false, b"", "", true),
-        (false, b"", "a", false),
-        (false, b"a?c", "a.c", true),
-        (false, b"a?c", "ac", false),
-        (false, "\u{e4}?".as_bytes(), "\u{e4}\u{fc}", true),
-        (false, b"a", "A", false),
-        (false, b"a\\*", "a\\b", true),
-        (false, b"a\\*", "a*", false),
-        (false, b"a]b", "a]b", true),
-        (false, b"[a-cx]", "b", true),
-        (false, b"[a-cx]", "x", true),
-        (false, b"[a-cx]", "d", false),
-        (false, b"[c-a]", "b", false),
-        (false, b"[a-]", "-", true),
-        (false, b"[!a-c]", "d", true),
-        (false, b"[!a-c]", "b", false),
-        (false, b"[^a-c]", "d", true),
-        (false, b"[^a-c]", "b", false),
-        (false, b"[!]]", "]", false),
-        (false, b"[[^]", "!", true),
-        (false, b"[[^]", "^", false),
-        (false, b"a/*", "a/b/.c", true),
-        (true, b"a**b", "axyb", true),
-        (true, b"a**b", "axyc", false),
-        (true, b"***", "", true),
-        (true, b"[]*]**", "]x", true),
-        (true, b"[]*]**", "*", true),
-        (true, b"[]*]**", "x", false),
-        (true, b"[^**]", "*", false),
-    ] {
+    for &(macho, pattern, name, fits) in FITTED {
         let Ok(compiled) = compile(&rt, macho, pattern) else {
             return Err("a pattern did not compile".into());
         };
@@ -88,17 +92,19 @@ fn names_that_patterns_fit(rt: HostRuntime) -> Result<(), Fail> {
     Ok(())
 }
 
+const REFUSED: &[(bool, &[u8], GlobError)] = &[
+    (false, b"a**b", GlobError::InvalidGlob),
+    (false, b"a[", GlobError::InvalidGlob),
+    (false, b"[]", GlobError::InvalidGlob),
+    (false, b"[!]", GlobError::InvalidGlob),
+    (false, b"a\xff", GlobError::InvalidUtf8),
+    (true, b"**[]", GlobError::InvalidGlob),
+    (true, b"\xc3*", GlobError::InvalidUtf8),
+];
+
 #[test]
 fn refused_patterns(rt: HostRuntime) {
-    for (macho, pattern, fault) in [
-        (false, b"a**b".as_slice(), GlobError::InvalidGlob),
-        (false, b"a[", GlobError::InvalidGlob),
-        (false, b"[]", GlobError::InvalidGlob),
-        (false, b"[!]", GlobError::InvalidGlob),
-        (false, b"a\xff", GlobError::InvalidUtf8),
-        (true, b"**[]", GlobError::InvalidGlob),
-        (true, b"\xc3*", GlobError::InvalidUtf8),
-    ] {
+    for &(macho, pattern, fault) in REFUSED {
         assert!(rt;
             matches!(compile(&rt, macho, pattern), Err(e) if e == fault),
             "{pattern:?}"

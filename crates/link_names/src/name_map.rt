@@ -81,12 +81,7 @@ impl<V: Copy + Drop> NameMap<V> {
     }
 
     /// Notes the value of each name of the set of which none was noted.
-    pub fn note_all(
-        &mut self,
-        alloc: Global,
-        names: &NameSet,
-        value: V,
-    ) -> Result<(), AllocError>
+    pub fn note_all(&mut self, alloc: Global, names: &NameSet, value: V) -> Result<(), AllocError>
         ensures { OnOk result ((asked : List ℕ) → value_in self.new asked ≡ option_or (value_in self.old asked) (if is_member names.now asked then Some value else None)) }
     {
         for (name, is_member) in names.iter() {

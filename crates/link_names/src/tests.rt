@@ -20,7 +20,7 @@ fn shows<D: fmt::Display>(
     Ok(())
 }
 
-const NAMES: [(&[u8], bool, &str); 5] = [
+const NAMES: &[(&[u8], bool, &str)] = &[
     (b"main", true, "main"),
     (b"", true, ""),
     (b"\xc3\xa9", true, "é"),
@@ -30,7 +30,7 @@ const NAMES: [(&[u8], bool, &str); 5] = [
 
 #[test]
 fn names_are_shown(rt: HostRuntime) -> Result<(), Fail> {
-    for (bytes, is_text, want) in NAMES {
+    for &(bytes, is_text, want) in NAMES {
         let name = Name::from_slice(rt.alloc(), bytes)?;
         shows(&rt, rt.alloc(), &name, want)?;
         let unversioned = UnversionedSymbolName::new(name.clone()?);
@@ -49,7 +49,7 @@ fn a_list_grows(rt: HostRuntime) -> Result<(), Fail> {
 }
 
 // Of the authors' test suite of FNV.
-const HASHES: [(&[u8], u64); 3] = [
+const HASHES: &[(&[u8], u64)] = &[
     (b"", 0xcbf2_9ce4_8422_2325),
     (b"a", 0xaf63_dc4c_8601_ec8c),
     (b"foobar", 0x8594_4171_f739_67e8),
@@ -57,7 +57,7 @@ const HASHES: [(&[u8], u64); 3] = [
 
 #[test]
 fn names_carry_their_numbers(rt: HostRuntime) -> Result<(), Fail> {
-    for (bytes, want) in HASHES {
+    for &(bytes, want) in HASHES {
         assert_eq!(rt; hash_bytes(bytes), want);
         let name = UnversionedSymbolName::prehashed(Name::from_slice(rt.alloc(), bytes)?);
         assert_eq!(rt; number_in_map(name), want);
@@ -88,7 +88,7 @@ fn versions_are_told_apart_in_a_map(rt: HostRuntime) -> Result<(), Fail> {
     Ok(())
 }
 
-const NUMBERS: [(&str, Result<u64, ()>); 14] = [
+const NUMBERS: &[(&str, Result<u64, ()>)] = &[
     ("0x10", Ok(16)),
     ("12", Ok(12)),
     ("0x", Err(())),
@@ -105,7 +105,7 @@ const NUMBERS: [(&str, Result<u64, ()>); 14] = [
     ("18446744073709551616", Err(())),
 ];
 
-const MAPPING_NAMES: [(&[u8], bool); 6] = [
+const MAPPING_NAMES: &[(&[u8], bool)] = &[
     (b"$x", true),
     (b"$d.1", true),
     (b"$a", false),
@@ -116,10 +116,10 @@ const MAPPING_NAMES: [(&[u8], bool); 6] = [
 
 #[test]
 fn numbers_and_mapping_names_are_read(rt: HostRuntime) {
-    for (text, want) in NUMBERS {
+    for &(text, want) in NUMBERS {
         assert_eq!(rt; parse_number(text), want, "{text}");
     }
-    for (name, want) in MAPPING_NAMES {
+    for &(name, want) in MAPPING_NAMES {
         assert_eq!(rt; is_mapping_symbol_name(name), want);
     }
 }

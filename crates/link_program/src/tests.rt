@@ -30,7 +30,7 @@ symbol 9 baz -> 9 [NON_INTERPOSABLE]
 ";
 
 /// Manifests that `link 2` is run on, how each ends, and what is written.
-const MANIFESTS: [(&str, Status, &str); 12] = [
+const MANIFESTS: &[(&str, Status, &str)] = &[
     (
         r#"{"objects":[{"name":"e.o"}]}"#,
         Status::Linked,
@@ -101,7 +101,7 @@ symbol 2 f -> 2 [NON_INTERPOSABLE]
 ];
 
 /// Words that are no command.
-const NO_COMMANDS: [&str; 15] = [
+const NO_COMMANDS: &[&str] = &[
     "",
     "link",
     "2",
@@ -153,7 +153,7 @@ fn ran<R: Threads + Sync>(
 #[test]
 fn each_manifest_has_its_text(rt: HostRuntime) -> Result<(), Fail> {
     let alloc = rt.alloc();
-    for (manifest, status, text) in MANIFESTS {
+    for &(manifest, status, text) in MANIFESTS {
         let (ended, taken) = ran(&rt, alloc, "link 2", manifest, 100, 0, 0)?;
         assert_eq!(rt; ended, status, "{manifest}");
         assert!(rt; taken.as_slice() == text.as_bytes(), "{manifest}");
@@ -164,7 +164,7 @@ fn each_manifest_has_its_text(rt: HostRuntime) -> Result<(), Fail> {
 #[test]
 fn other_words_are_no_command(rt: HostRuntime) -> Result<(), Fail> {
     let alloc = rt.alloc();
-    for line in NO_COMMANDS {
+    for &line in NO_COMMANDS {
         let (ended, taken) = ran(&rt, alloc, line, ARCHIVE, 100, 0, 0)?;
         assert_eq!(rt; ended, Status::Usage, "{line}");
         assert!(rt; taken.as_slice() == b"error: usage\n".as_slice(), "{line}");

@@ -10,7 +10,8 @@ use Rattle.link_syntax.specs.Faults.{IsFaultOf, IsRefusedWith, ScriptFails}
 use Rattle.link_syntax.specs.Grammar.{IsVersionScript}
 use Rattle.link_syntax.specs.Script.{script_at}
 use Rattle.link_syntax.proofs.Answered.{fault_is, refuses_by}
-use Rattle.link_syntax.proofs.Judged.{ok_same, never_both, found}
+use Rattle.link_syntax.proofs.Judged.{never_both, found}
+use Rattle.link_syntax.proofs.Places.{ok_same}
 use Rattle.link_syntax.proofs.ScriptLaws.{script_judged}
 use Rattle.link_script.specs.declared.script.VersionScript.{VersionScript}
 use Rattle.link_script.specs.declared.script.VersionScript.TheVariants.{Regular, Rust}

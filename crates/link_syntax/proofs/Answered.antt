@@ -10,8 +10,8 @@ use Rattle.link_syntax.specs.Entry.{entry_at, ReadsEntry, EntryIs}
 use Rattle.link_syntax.specs.Fault.{refuse, Refuses, Answers, IsRead}
 use Rattle.link_syntax.specs.Faults.{IsFaultOf, IsRefusedWith, EntryFails}
 use Rattle.link_syntax.specs.Grammar.{IsEntry}
-use Rattle.link_syntax.proofs.Judged.{Judges, ok_same, err_same, never_both, found, refused}
-use Rattle.link_syntax.proofs.Places.{pair_parts}
+use Rattle.link_syntax.proofs.Judged.{Judges, err_same, never_both, found, refused}
+use Rattle.link_syntax.proofs.Places.{ok_same, pair_parts}
 use Rattle.link_syntax.proofs.BlockLaws.{entry_judged}
 
 -- ---- a fault, by what reading gives

@@ -3,6 +3,7 @@ use Rattle.std.proofs.Common.{◌≡◌, ℕ, List, length, Result, Ok, Err, ref
 use Rattle.link_syntax.specs.declared.fault.Fault.{Fault}
 use Rattle.link_syntax.specs.declared.fault.ScriptErrorKind.{ScriptErrorKind}
 use Rattle.link_syntax.specs.Fault.{refuse}
+use Rattle.link_syntax.proofs.Places.{ok_same}
 
 -- a value or a fault
 abbrev pub Either : {A : Type 0} → (A → Type 0) → (ScriptErrorKind → List ℕ → Type 0) → Type 0
@@ -13,9 +14,6 @@ pub record Judges {A : Type 0} (read : Result A Fault) (says : A → Type 0) (fa
   pub values : (x : A) → says x → read ≡ Ok x
   pub faults : (kind : ScriptErrorKind) (at : List ℕ) → fails kind at → read ≡ refuse kind at
   pub either : Either says fails
-
-pub ok_same : {A : Type 0} (x y : A) → ◌≡◌ {A = Result A Fault} (Ok x) (Ok y) → x ≡ y
-ok_same x y e = cc
 
 pub err_same : {A : Type 0} (d f : Fault) → ◌≡◌ {A = Result A Fault} (Err d) (Err f) → d ≡ f
 err_same d f e = cc

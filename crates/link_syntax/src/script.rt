@@ -25,7 +25,7 @@ pub enum RawScript {
 }
 
 /// The anonymous form: one body, a semicolon and nothing else.
-#[tactic(auto, unfolding(link_script::specs::Script::anonymous))]
+#[tactic(auto, unfolding(crate::specs::Script::anonymous))]
 fn anonymous_at(alloc: Global, text: &[u8]) -> Result<RawVersionBody, ReadError>
     ensures gives { Gives (λ body. body) result (anonymous text.now) }
     ensures inside { IfErr result (λ e. IsWithin e (length text.now)) }
@@ -42,7 +42,7 @@ fn anonymous_at(alloc: Global, text: &[u8]) -> Result<RawVersionBody, ReadError>
 }
 
 /// A whole script: the anonymous form where a brace comes first, otherwise named versions.
-#[tactic(auto, unfolding(link_script::specs::Script::script_at))]
+#[tactic(auto, unfolding(crate::specs::Script::script_at))]
 fn script_at(alloc: Global, text: &[u8]) -> Result<RawScript, ReadError>
     ensures gives { Gives (λ raw. raw) result (script_at text.now) }
     ensures few { IfOk result (λ raw. IsFew raw) }
