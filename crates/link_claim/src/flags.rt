@@ -15,7 +15,7 @@ use link_flags::ValueFlags;
 use link_ids::{SymbolId, SymbolIdRange};
 use std::marker::{Brand, Model, PhantomData};
 
-// The bits that a load asks for, which exist in proofs alone. Each call picks them.
+/// The bits that a load asks for, which exist in proofs alone. Each call picks them.
 trait Asked {
     ghost bits: { ℕ };
 }
@@ -24,7 +24,7 @@ impl Asked for Brand {
     ghost bits = { 0 };
 }
 
-// The kinds of step on flag words, and what each tells.
+/// The kinds of step on flag words, and what each tells.
 struct Look;
 
 impl Play<(), View> for Look {
@@ -102,7 +102,7 @@ impl<'a, P: Plan> Model for AtomicValueFlags<'a, P> {
     ghost view = { λ f. record { table = f.words.now; symbol = f.symbol } };
 }
 
-// The flags that a word holds.
+/// The flags that a word holds.
 pub(crate) fn flags_of_word(word: u64) -> ValueFlags
     requires { word < 2 ^ 32 }
     ensures { result.0 ≡ word }
@@ -110,7 +110,7 @@ pub(crate) fn flags_of_word(word: u64) -> ValueFlags
     ValueFlags::from_bits_retain(word as u32)
 }
 
-// Reads a flag word.
+/// Reads a flag word.
 fn load<P: Plan>(words: &Words<P>, seat: &mut WorkSeat, symbol: usize) -> u64
     requires table { seat.old.table ≡ words.now }
     requires symbol { symbol < length seat.old.view.work.opening }
@@ -122,7 +122,7 @@ fn load<P: Plan>(words: &Words<P>, seat: &mut WorkSeat, symbol: usize) -> u64
     words.table.shared.load::<Look>(&mut seat.seat, word)
 }
 
-// Reads a flag word. The mark is listed where its bits are set, and missed where one is not.
+/// Reads a flag word. The mark is listed where its bits are set, and missed where one is not.
 fn look_for<B: Asked, P: Plan>(
     words: &Words<P>,
     seat: &mut WorkSeat,
@@ -144,7 +144,7 @@ fn look_for<B: Asked, P: Plan>(
     words.table.shared.load::<LookFor<B>>(&mut seat.seat, word)
 }
 
-// Joins bits to a flag word, whatever it holds.
+/// Joins bits to a flag word, whatever it holds.
 fn write_bits<P: Plan>(words: &Words<P>, seat: &mut WorkSeat, symbol: usize, bits: u64) -> u64
     requires table { seat.old.table ≡ words.now }
     requires symbol { symbol < length seat.old.view.work.opening }
@@ -159,7 +159,7 @@ fn write_bits<P: Plan>(words: &Words<P>, seat: &mut WorkSeat, symbol: usize, bit
     shared.fetch_or::<WriteBits>(&mut seat.seat, word, bits)
 }
 
-// Joins bits to a flag word, but only once a load saw one missing. Answers the word as the last step found it.
+/// Joins bits to a flag word, but only once a load saw one missing. Answers the word as the last step found it.
 fn join_missing<P: Plan>(words: &Words<P>, seat: &mut WorkSeat, symbol: usize, bits: u64) -> u64
     requires table { seat.old.table ≡ words.now }
     requires symbol { symbol < length seat.old.view.work.opening }

@@ -16,14 +16,14 @@ use std::test::Fail;
 use std::thread;
 use std::thread::Threads;
 
-// A worked example: the core, step by step, as two workers read three files.
+/// A worked example: the core, step by step, as two workers read three files.
 fn two_workers_read_three_files()
     ensures ends { after (start three_files) two_workers ≡ three_files_read }
     ensures legal { AllLegal three_files (start three_files) two_workers }
     ensures read { IsAllRead three_files three_files_read }
 {}
 
-// Eight files, all of them roots; one item of the first file; two symbols, with two root marks each.
+/// Eight files, all of them roots; one item of the first file; two symbols, with two root marks each.
 struct EightFiles;
 
 const FILES: usize = 8;
@@ -68,7 +68,7 @@ impl Plan for EightFiles {
     ghost fits = { λ _. eight_files_fit };
 }
 
-// One of the root marks.
+/// One of the root marks.
 fn root_mark(k: u64) -> (SymbolId, ValueFlags)
     ensures mark { Contains eight_files.root_marks (record { symbol = result.0; bits = result.1.0 }) }
     ensures symbol { result.0 < 2 }
@@ -81,14 +81,14 @@ fn root_mark(k: u64) -> (SymbolId, ValueFlags)
     }
 }
 
-// The next of a sequence of numbers that look random.
+/// The next of a sequence of numbers that look random.
 fn after_random(random: u64) -> u64 {
     random
         .wrapping_mul(6364136223846793005)
         .wrapping_add(1442695040888963407)
 }
 
-// What a thread did.
+/// What a thread did.
 #[derive(Clone, Copy, Drop)]
 struct Tally {
     claims: u64,
@@ -96,7 +96,7 @@ struct Tally {
     requests: u64,
 }
 
-// A seat for one thread, where its numbers begin, and what it did.
+/// A seat for one thread, where its numbers begin, and what it did.
 #[derive(Drop)]
 struct Job {
     seat: WorkSeat,
@@ -129,7 +129,7 @@ fn mark(words: &Words<EightFiles>, seat: &mut WorkSeat, k: u64)
     word.or_assign(seat, flags);
 }
 
-// Begins the item, once its file is claimed.
+/// Begins the item, once its file is claimed.
 fn begin(words: &Words<EightFiles>, seat: &mut WorkSeat, tally: &mut Tally)
     requires table { seat.old.table ≡ words.now }
     requires work { seat.old.view.work ≡ eight_files }
@@ -145,7 +145,7 @@ fn begin(words: &Words<EightFiles>, seat: &mut WorkSeat, tally: &mut Tally)
     }
 }
 
-// One of many steps, as the number says.
+/// One of many steps, as the number says.
 fn step(words: &Words<EightFiles>, seat: &mut WorkSeat, random: u64, tally: &mut Tally)
     requires table { seat.old.table ≡ words.now }
     requires work { seat.old.view.work ≡ eight_files }
@@ -182,7 +182,7 @@ fn run(words: &Words<EightFiles>, job: Job) -> Job
     }
 }
 
-// A job for each thread.
+/// A job for each thread.
 fn deal(
     alloc: Global,
     words: &Words<EightFiles>,
@@ -210,7 +210,7 @@ fn deal(
     Ok(jobs)
 }
 
-// A check by a seat of whose work nothing is known, but that it is of the same words as another.
+/// A check by a seat of whose work nothing is known, but that it is of the same words as another.
 fn check_by(words: &Words<EightFiles>, known: &mut WorkSeat, seat: &mut WorkSeat) -> bool
     requires known { known.old.table ≡ words.now }
     requires work { known.old.view.work ≡ eight_files }
@@ -222,7 +222,7 @@ fn check_by(words: &Words<EightFiles>, known: &mut WorkSeat, seat: &mut WorkSeat
     seat.check(words, 0)
 }
 
-// Takes all seats back, and adds up what was done.
+/// Takes all seats back, and adds up what was done.
 fn gather(words: &Words<EightFiles>, seat: &mut WorkSeat, mut jobs: Vec<Job>) -> Tally
     requires table { seat.old.table ≡ words.now }
     requires work { seat.old.view.work ≡ eight_files }
@@ -250,7 +250,7 @@ fn gather(words: &Words<EightFiles>, seat: &mut WorkSeat, mut jobs: Vec<Job>) ->
     all
 }
 
-// The flags of the second symbol, by the range of both.
+/// The flags of the second symbol, by the range of both.
 fn second_flags(words: &Words<EightFiles>, seat: &mut WorkSeat) -> Option<ValueFlags>
     requires table { seat.old.table ≡ words.now }
     requires work { seat.old.view.work ≡ eight_files }
@@ -263,7 +263,7 @@ fn second_flags(words: &Words<EightFiles>, seat: &mut WorkSeat) -> Option<ValueF
     Some(second.get(seat))
 }
 
-// The flags of the first symbol, as a mark of it found them.
+/// The flags of the first symbol, as a mark of it found them.
 fn first_flags(words: &Words<EightFiles>, seat: &mut WorkSeat) -> ValueFlags
     requires table { seat.old.table ≡ words.now }
     requires work { seat.old.view.work ≡ eight_files }
@@ -275,7 +275,7 @@ fn first_flags(words: &Words<EightFiles>, seat: &mut WorkSeat) -> ValueFlags
     word.fetch_or(seat, flags)
 }
 
-// What is left when all threads have ended.
+/// What is left when all threads have ended.
 #[derive(Clone, Copy, Drop, PartialEq, Eq, Debug)]
 struct Outcome {
     claims: u64,
@@ -322,7 +322,7 @@ fn shared<R: Threads + Sync>(rt: &R, alloc: Global, threads: u64) -> Result<Outc
     })
 }
 
-// The same steps on plain values, one thread after another: each file is claimed once.
+/// The same steps on plain values, one thread after another: each file is claimed once.
 fn plain(threads: u64) -> Outcome {
     let mut files = [false; 8];
     let mut flags = [16u32, 32];
@@ -365,7 +365,7 @@ fn threads_leave_what_one_leaves(rt: HostRuntime) -> Result<(), Fail> {
     Ok(())
 }
 
-// Three files, of which the first is a root and asks for the second; nothing asks for the third.
+/// Three files, of which the first is a root and asks for the second; nothing asks for the third.
 struct ThreeFiles;
 
 impl Plan for ThreeFiles {
@@ -406,7 +406,7 @@ impl Plan for ThreeFiles {
     ghost fits = { λ _. three_files_fit };
 }
 
-// Reads all that is asked for, in one thread.
+/// Reads all that is asked for, in one thread.
 fn read_three_files(words: &Words<ThreeFiles>, seat: &mut WorkSeat)
     requires table { seat.old.table ≡ words.now }
     requires view { seat.old.view ≡ first_view three_files }
@@ -428,7 +428,7 @@ fn read_three_files(words: &Words<ThreeFiles>, seat: &mut WorkSeat)
     seat.begin(words, 1);
 }
 
-// The flags that a mark of the second symbol found.
+/// The flags that a mark of the second symbol found.
 fn found_by_mark(words: &Words<ThreeFiles>, seat: &mut WorkSeat) -> u32
     requires table { seat.old.table ≡ words.now }
     requires work { seat.old.view.work ≡ three_files }
@@ -451,7 +451,7 @@ fn a_mark_finds_what_was_there(rt: HostRuntime) -> Result<(), Fail> {
     Ok(())
 }
 
-// A worked example on the words: which files are claimed and which flags are left is known before it runs.
+/// A worked example on the words: which files are claimed and which flags are left is known before it runs.
 fn three_files_on_words(alloc: Global) -> Result<([bool; 3], [u32; 2]), AllocError>
     ensures { IfOk result (λ r. (r.0 ≡ true ∷ true ∷ false ∷ []) × (r.1 ≡ 6 ∷ 1 ∷ [])) }
 {

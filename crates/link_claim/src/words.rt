@@ -17,7 +17,7 @@ use link_ids::SymbolId;
 use std::alloc::{AllocError, Global};
 use std::marker::{Brand, Model, PhantomData};
 
-// The rule that the words of a plan's work keep.
+/// The rule that the words of a plan's work keep.
 pub(crate) struct Kept<P> {
     plan: PhantomData<P>,
 }
@@ -28,7 +28,7 @@ impl<P: Plan> TableRule<(), View, P> for Kept<P> {
     ghost first = { λ plan. first_view (P.work plan) };
 }
 
-// The kinds of step on claim and begin words, and what each tells.
+/// The kinds of step on claim and begin words, and what each tells.
 struct SeeClaim;
 
 impl Play<(), View> for SeeClaim {
@@ -53,7 +53,7 @@ impl Play<(), View> for TakeBegin {
     ghost then = { took_begin };
 }
 
-// The work that a load tells of, which exists in proofs alone. Each call picks it.
+/// The work that a load tells of, which exists in proofs alone. Each call picks it.
 trait Told {
     ghost work: { Workload };
 }
@@ -70,7 +70,7 @@ impl<B: Told> Play<(), View> for TellWork<B> {
     ghost then = { told_work B.work };
 }
 
-// How a seat is cut in two, and how two are made one.
+/// How a seat is cut in two, and how two are made one.
 pub(crate) struct Pass;
 
 impl Split<View> for Pass {
@@ -100,7 +100,7 @@ impl<P: Plan> Model for Words<P> {
     ghost invariant = { λ w. w.table.shared.table_id.slots ≡ 0 };
 }
 
-// How many words come before the flag words, and how many there are: none if no memory has so many.
+/// How many words come before the flag words, and how many there are: none if no memory has so many.
 fn word_counts<P: Plan>(plan: &P) -> Option<(usize, usize)>
     ensures { IfSome result (λ n. (n.0 ≡ flag_base (P.work plan.now)) × (n.1 ≡ word_count (P.work plan.now))) }
 {
@@ -109,7 +109,7 @@ fn word_counts<P: Plan>(plan: &P) -> Option<(usize, usize)>
     Some((zeros, all))
 }
 
-// A spare word, the claim and begin words at 0, and the opening flags.
+/// A spare word, the claim and begin words at 0, and the opening flags.
 fn opening_words<P: Plan>(alloc: Global, plan: &P) -> Result<Vec<u64>, AllocError>
     ensures words { IfOk result (λ v. v.items ≡ opening_words_of (P.work plan.now)) }
     ensures small { IfOk result (λ v. word_count (P.work plan.now) < 2 ^ 64) }
@@ -142,7 +142,7 @@ impl<P: Plan> Words<P> {
     }
 }
 
-// Loads the spare word by a seat: its view names the plan's work.
+/// Loads the spare word by a seat: its view names the plan's work.
 fn tell_work<B: Told, P: Plan>(shared: &Shared<(), View, P, Kept<P>>, seat: &mut Seat<(), View>)
     requires table { seat.old.table_id ≡ shared.now.table_id }
     requires word { 0 < shared.now.table_id.words }
@@ -155,7 +155,7 @@ fn tell_work<B: Told, P: Plan>(shared: &Shared<(), View, P, Kept<P>>, seat: &mut
     shared.load::<TellWork<B>>(seat, 0);
 }
 
-// Loads the spare word by each of two seats: their views name one work, that of the plan.
+/// Loads the spare word by each of two seats: their views name one work, that of the plan.
 fn tell_one_work<P: Plan>(
     shared: &Shared<(), View, P, Kept<P>>,
     seat: &mut Seat<(), View>,

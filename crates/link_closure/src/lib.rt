@@ -39,7 +39,7 @@ pub fn one_least_closed_set()
         → IsLeastClosed (λ f. IsTrue (root f)) (λ f g. IsTrue (leads f g)) count b → a ≡ b }
 {}
 
-// The rows of a graph that is given by its edges.
+/// The rows of a graph that is given by its edges.
 fn rows_of(alloc: Global, count: usize, edges: &[Edge]) -> Result<Vec<Vec<usize>>, AllocError>
     requires { AreInRange count edges.now }
     ensures each { IfOk result (λ rows. length rows.items ≡ count) }
@@ -53,7 +53,7 @@ fn rows_of(alloc: Global, count: usize, edges: &[Edge]) -> Result<Vec<Vec<usize>
     Ok(rows)
 }
 
-// Rows that lead nowhere.
+/// Rows that lead nowhere.
 fn empty_rows(alloc: Global, count: usize) -> Result<Vec<Vec<usize>>, AllocError>
     ensures each { IfOk result (λ rows. length rows.items ≡ count) }
     ensures empty { IfOk result (λ rows. All (λ row. row.items ≡ []) rows.items) }
@@ -65,7 +65,7 @@ fn empty_rows(alloc: Global, count: usize) -> Result<Vec<Vec<usize>>, AllocError
     Ok(rows)
 }
 
-// Adds a number to a row.
+/// Adds a number to a row.
 fn push_to_row(rows: &mut [Vec<usize>], from: usize, to: usize) -> Result<(), AllocError>
     requires { from < length rows.old }
     ensures old { OnOk result ((f g : ℕ) → Leads rows.old f g → Leads rows.new f g) }
@@ -77,7 +77,7 @@ fn push_to_row(rows: &mut [Vec<usize>], from: usize, to: usize) -> Result<(), Al
     Ok(())
 }
 
-// The same over rows: for each number those to which it leads.
+/// The same over rows: for each number those to which it leads.
 fn closed_over_rows(
     alloc: Global,
     roots: &[bool],
@@ -95,7 +95,7 @@ fn closed_over_rows(
     Ok(marks)
 }
 
-// Marks a number, and puts it on the list of those that wait, if it is new.
+/// Marks a number, and puts it on the list of those that wait, if it is new.
 fn mark_one(marks: &mut [bool], todo: &mut Vec<usize>, number: usize) -> Result<(), AllocError>
     requires { number < length marks.old }
     ensures marked { OnOk result (IsMarked marks.new number) }
@@ -114,7 +114,7 @@ fn mark_one(marks: &mut [bool], todo: &mut Vec<usize>, number: usize) -> Result<
     Ok(())
 }
 
-// Marks each number of a row, and puts the new ones on the list of those that wait.
+/// Marks each number of a row, and puts the new ones on the list of those that wait.
 fn mark_row(marks: &mut [bool], todo: &mut Vec<usize>, row: &[usize]) -> Result<(), AllocError>
     requires { All (λ g. g < length marks.old) row.now }
     ensures row { OnOk result ((g : ℕ) → Contains row.now g → IsMarked marks.new g) }
@@ -132,7 +132,7 @@ fn mark_row(marks: &mut [bool], todo: &mut Vec<usize>, row: &[usize]) -> Result<
     Ok(())
 }
 
-// The numbers of the roots.
+/// The numbers of the roots.
 fn roots_listed(alloc: Global, roots: &[bool]) -> Result<Vec<usize>, AllocError>
     ensures listed { IfOk result (λ found. (f : ℕ) → IsMarked roots.now f → Contains found.items f) }
     ensures only { IfOk result (λ found. (f : ℕ) → Contains found.items f → IsMarked roots.now f) }

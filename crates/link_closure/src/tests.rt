@@ -1,4 +1,5 @@
-// What no clause says: that the set comes where memory is ample.
+//! What no clause says: that the set comes where memory is ample.
+
 use crate::{Edge, least_closed};
 
 #[test]

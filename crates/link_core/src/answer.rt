@@ -1,4 +1,5 @@
-// The answer, once it is known which objects are loaded.
+//! The answer, once it is known which objects are loaded.
+
 ghost use Rattle.std.specs.Prelude.{◌≡◌, ◌++◌, ◌==◌, ◌&&◌, ℕ, ◌<◌, ◌^◌, List, Bool, Option, map, length, IfOk, OnOk};
 ghost use Rattle.std.specs.Option.{option_to_list};
 ghost use Rattle.link_closure.specs.Closure.{is_marked};
@@ -60,6 +61,7 @@ pub fn canonical_marks<'a>(
     Ok(marks)
 }
 
+/// Whether the symbol is the reference that stands for its name: the last one, so that it stands behind all that point to it.
 fn is_canonical<'a>(
     canonical: &HashMap<&'a [u8], u32>,
     loaded: &[bool],
@@ -125,6 +127,7 @@ pub fn symbol_flags(
     Ok(flags)
 }
 
+/// The mark at this place; none is set past the end.
 fn is_set(marks: &[bool], at: usize) -> bool
     ensures { result ≡ is_marked marks.now at }
 {
@@ -156,6 +159,7 @@ pub fn undefined_names(
     Ok(names)
 }
 
+/// Adds the name of an undefined reference.
 fn push_undefined(
     alloc: Global,
     names: &mut Vec<UndefinedName>,

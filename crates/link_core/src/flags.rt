@@ -1,4 +1,5 @@
-// The flags of each symbol's value.
+//! The flags of each symbol's value.
+
 ghost use Rattle.std.specs.Prelude.{◌≡◌, ◌==◌, ◌&&◌, ◌||◌, ℕ, ◌<◌, ◌^◌, List, map, length, IfOk, IfSome, is_some};
 ghost use Rattle.link_closure.specs.Closure.{is_marked};
 ghost use Rattle.link_core.specs.Steps.{flags_from};
@@ -32,7 +33,7 @@ pub fn referenced_symbols(
     Ok(marks)
 }
 
-// Marks the target of a reference, where the reference counts.
+/// Marks the target of a reference, where the reference counts.
 fn note_reference(marks: &mut [bool], counts: bool, target: Option<u32>)
     ensures { (s : ℕ) → s < length marks.old → is_marked marks.new s ≡ (is_marked marks.old s || (counts && is_number target s)) }
 {
@@ -61,12 +62,14 @@ pub fn final_flags(symbol: &Symbol, is_referenced: bool, is_canonical: bool) -> 
     flags
 }
 
+/// Whether the symbol's value lies in no section.
 fn is_fixed(place: Place) -> bool
     ensures { result ≡ is_fixed place }
 {
     place == Place::Undefined || place == Place::Absolute
 }
 
+/// Whether no other file can put its own definition in the place of this symbol.
 fn is_non_interposable(symbol: &Symbol) -> bool
     ensures { result ≡ is_non_interposable symbol.now }
 {

@@ -1,4 +1,5 @@
-// A whole link.
+//! A whole link.
+
 ghost use Rattle.std.specs.Prelude.{◌≡◌, ◌⊎◌, ◌≤◌, ◌<◌, ◌^◌, ◌+◌, ◌-◌, ◌*◌, ℕ, List, map, length, Some, None, IfOk, IfErr, IfSome, IfNone, if◌then◌else◌};
 ghost use Rattle.link_core.specs.Found.{found, pair_of};
 ghost use Rattle.link_rules.specs.Plain.Lists.{first_definition};
@@ -14,7 +15,9 @@ use crate::answer::{
     canonical_marks, loaded_objects, symbol_flags, symbol_ids, symbol_names, undefined_names,
 };
 use crate::loading;
-use crate::names::{LoadedDefinitions, canonical_references, first_definitions, loaded_definitions};
+use crate::names::{
+    LoadedDefinitions, canonical_references, first_definitions, loaded_definitions,
+};
 use crate::rivals::duplicate_lines;
 use crate::symbols::symbols_of;
 use crate::table::table_of;
@@ -50,7 +53,7 @@ pub fn link_symbols<P: Platform>(
     link_objects(alloc, inputs.objects.as_slice())
 }
 
-// Links some objects.
+/// Links some objects.
 fn link_objects<P: Platform>(
     alloc: Global,
     objects: &[ParsedInputObject<P>],
@@ -67,7 +70,7 @@ fn link_objects<P: Platform>(
     link_counted(alloc, objects)
 }
 
-// Links some objects whose symbols have ids.
+/// Links some objects whose symbols have ids.
 fn link_counted<P: Platform>(
     alloc: Global,
     objects: &[ParsedInputObject<P>],
@@ -81,7 +84,7 @@ fn link_counted<P: Platform>(
     link_over(alloc, objects, symbols.as_slice())
 }
 
-// Links some objects that have these symbols.
+/// Links some objects that have these symbols.
 fn link_over<P: Platform>(
     alloc: Global,
     objects: &[ParsedInputObject<P>],
@@ -100,7 +103,7 @@ fn link_over<P: Platform>(
     link_loaded(alloc, objects, symbols, &firsts, targets, loaded.as_slice())
 }
 
-// Links some objects of which it is known which are loaded.
+/// Links some objects of which it is known which are loaded.
 fn link_loaded<'a, P: Platform>(
     alloc: Global,
     objects: &[ParsedInputObject<P>],
@@ -135,7 +138,7 @@ fn link_loaded<'a, P: Platform>(
     Ok(linked)
 }
 
-// The answer over symbols of which no two clash.
+/// The answer over symbols of which no two clash.
 fn answer<'a, P: Platform>(
     alloc: Global,
     objects: &[ParsedInputObject<P>],
@@ -181,7 +184,7 @@ fn answer<'a, P: Platform>(
     })
 }
 
-// More objects, sections or symbols than ids can name.
+/// More objects, sections or symbols than ids can name.
 fn limit_refusal<P: Platform>(objects: &[ParsedInputObject<P>]) -> Option<LinkError>
     ensures refusal { result ≡ limit_refusal objects.now }
     ensures fits { IfNone result (length (symbols_of objects.now) < 2 ^ 32) }
@@ -197,6 +200,7 @@ fn limit_refusal<P: Platform>(objects: &[ParsedInputObject<P>]) -> Option<LinkEr
     limit_cause(TooManyKind::Symbols, ID_LIMIT, symbol_count(objects))
 }
 
+/// The cause that this count has, where it is past its limit.
 fn limit_cause(kind: TooManyKind, limit: u128, count: u128) -> Option<LinkError>
     ensures cause { result ≡ limit_cause kind limit count }
     ensures within { IfNone result (count ≤ limit) }
@@ -208,7 +212,7 @@ fn limit_cause(kind: TooManyKind, limit: u128, count: u128) -> Option<LinkError>
     }
 }
 
-// How many sections the regular objects have.
+/// How many sections the regular objects have.
 fn section_total<P: Platform>(objects: &[ParsedInputObject<P>]) -> u128
     requires { length objects.now < 2 ^ 25 }
     ensures { result ≡ section_total objects.now }
@@ -220,6 +224,7 @@ fn section_total<P: Platform>(objects: &[ParsedInputObject<P>]) -> u128
     count
 }
 
+/// How many sections the object brings to the link: a shared one brings none.
 fn sections_of<P: Platform>(object: &ParsedInputObject<P>) -> u128
     ensures value { result ≡ sections_of object.now }
     ensures fits { result < 2 ^ 32 }
@@ -231,7 +236,7 @@ fn sections_of<P: Platform>(object: &ParsedInputObject<P>) -> u128
     }
 }
 
-// How many symbols all files have.
+/// How many symbols all files have.
 fn symbol_count<P: Platform>(objects: &[ParsedInputObject<P>]) -> u128
     requires { length objects.now < 2 ^ 25 }
     ensures { result ≡ length (symbols_of objects.now) }

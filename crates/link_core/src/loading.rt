@@ -1,4 +1,5 @@
-// Which objects are loaded.
+//! Which objects are loaded.
+
 ghost use Rattle.std.specs.Prelude.{◌≡◌, ◌<◌, ◌^◌, ℕ, List, not, map, length, None, if◌then◌else◌, IfOk};
 ghost use Rattle.link_core.specs.Edges.{edge_from, edges_in};
 ghost use Rattle.link_core.specs.Found.{found};
@@ -30,6 +31,7 @@ pub fn targets_of<'a>(
     Ok(targets)
 }
 
+/// What a reference means: the first definition of its name.
 fn target_in<'a>(firsts: &HashMap<&'a [u8], u32>, symbol: &'a Symbol) -> Option<u32>
     ensures { result ≡ (if is_reference symbol.now then found firsts.now symbol.now.name else None) }
 {
@@ -55,7 +57,7 @@ pub fn loaded_objects<P: Platform>(
     least_closed(alloc, &roots, &edges)
 }
 
-// The objects that are loaded at first, a mark for each.
+/// The objects that are loaded at first, a mark for each.
 fn roots_of<P: Platform>(
     alloc: Global,
     objects: &[ParsedInputObject<P>],
@@ -69,7 +71,7 @@ fn roots_of<P: Platform>(
     Ok(roots)
 }
 
-// It is loaded only where it is asked for.
+/// It is loaded only where it is asked for.
 fn is_optional<P: Platform>(object: &ParsedInputObject<P>) -> bool
     ensures { result ≡ is_optional object.now }
 {
@@ -77,7 +79,7 @@ fn is_optional<P: Platform>(object: &ParsedInputObject<P>) -> bool
     modifiers.archive && !modifiers.whole_archive || object.is_dynamic() && modifiers.as_needed
 }
 
-// Each edge that a reference makes from its object to that of its target.
+/// Each edge that a reference makes from its object to that of its target.
 fn edges_of(
     alloc: Global,
     symbols: &[Symbol],
@@ -95,6 +97,7 @@ fn edges_of(
     Ok(edges)
 }
 
+/// The edge of a reference that leaves its object.
 fn edge_from(symbols: &[Symbol], symbol: &Symbol, target: Option<u32>) -> Option<Edge>
     ensures { result ≡ edge_from symbols.now symbol.now target }
 {

@@ -1,5 +1,6 @@
-// What is known of each name: its first definition, its first two definitions in loaded objects, and the last reference
-// to it that nothing defines.
+//! What is known of each name: its first definition, its first two definitions in loaded objects, and the last reference
+//! to it that nothing defines.
+
 ghost use Rattle.std.specs.Prelude.{◌≡◌, ◌&&◌, ℕ, ◌<◌, ◌^◌, List, Some, IfOk, OnOk, length, if◌then◌else◌, map, option_map};
 ghost use Rattle.std.specs.Str.{bytes_eq};
 ghost use Rattle.link_core.specs.Found.{found, kept_first, noted, pair_of, is_left_with};
@@ -37,7 +38,7 @@ pub fn first_definitions<'a>(
     Ok(map)
 }
 
-// Notes the definition of a name, where it is the first.
+/// Notes the definition of a name, where it is the first.
 fn note_first<'a>(
     map: &mut HashMap<&'a [u8], u32>,
     name: &'a [u8],
@@ -69,7 +70,7 @@ pub fn loaded_definitions<'a>(
     Ok(map)
 }
 
-// Notes a definition of a name in a loaded object, where it is the first or the second.
+/// Notes a definition of a name in a loaded object, where it is the first or the second.
 fn note_loaded<'a>(
     map: &mut HashMap<&'a [u8], LoadedDefinitions>,
     name: &'a [u8],
@@ -82,6 +83,7 @@ fn note_loaded<'a>(
     Ok(())
 }
 
+/// The first two definitions, where one more is met: only these are told of a clash.
 fn noted(known: Option<LoadedDefinitions>, symbol: u32) -> LoadedDefinitions
     ensures { result ≡ noted known symbol }
 {
@@ -117,7 +119,7 @@ pub fn canonical_references<'a>(
     Ok(map)
 }
 
-// Notes the last reference to a name.
+/// Notes the last reference to a name.
 fn note_last<'a>(
     map: &mut HashMap<&'a [u8], u32>,
     name: &'a [u8],

@@ -1,4 +1,5 @@
-// Names that two loaded objects define.
+//! Names that two loaded objects define.
+
 ghost use Rattle.std.specs.Prelude.{◌≡◌, ◌++◌, ◌&&◌, if◌then◌else◌, ℕ, ◌<◌, ◌^◌, List, Option, Some, None, IfOk, OnOk, length, option_map, option_and_then, option_to_list, slice_get};
 ghost use Rattle.link_names.specs.NameText.{name_text};
 ghost use Rattle.link_core.specs.Found.{found, pair_of};
@@ -39,7 +40,7 @@ pub fn duplicate_lines<'a, P: Platform>(
     Ok(lines)
 }
 
-// The same, in the order of the first definitions.
+/// The same, in the order of the first definitions.
 fn duplicates_of<'a, P: Platform>(
     alloc: Global,
     objects: &[ParsedInputObject<P>],
@@ -65,6 +66,7 @@ fn duplicates_of<'a, P: Platform>(
     Ok(lines)
 }
 
+/// The line of a clash, told at the first of its definitions, so that each name has one.
 fn duplicate_at<P: Platform>(
     alloc: Global,
     objects: &[ParsedInputObject<P>],
@@ -89,7 +91,7 @@ fn duplicate_at<P: Platform>(
     Ok(Some(line))
 }
 
-// The two definitions that clash, told at the first definition of the name.
+/// The two definitions that clash, told at the first definition of the name.
 fn clash(
     first: Option<u32>,
     known: Option<LoadedDefinitions>,
@@ -105,6 +107,7 @@ fn clash(
     }
 }
 
+/// The first two definitions, where there are two.
 fn two_in(known: Option<LoadedDefinitions>) -> Option<(u32, u32)>
     ensures { result ≡ two_in known }
 {
@@ -112,12 +115,14 @@ fn two_in(known: Option<LoadedDefinitions>) -> Option<(u32, u32)>
     Some((known.first, known.second?))
 }
 
+/// The place of the object that the symbol is of.
 fn object_of(symbols: &[Symbol], id: u32) -> Option<usize>
     ensures { result ≡ object_of symbols.now id }
 {
     symbols.get(id as usize)?.object
 }
 
+/// The line of a clash: the name and the first two files that define it.
 fn duplicate_line<P: Platform>(
     alloc: Global,
     name: &Name,
@@ -136,6 +141,7 @@ fn duplicate_line<P: Platform>(
     Ok(Name::new(line))
 }
 
+/// Adds a name as it prints.
 fn push_name(alloc: Global, line: &mut Vec<u8>, name: &Name) -> Result<(), AllocError>
     ensures { OnOk result (line.new.items ≡ line.old.items ++ name_text name.now) }
 {
@@ -144,6 +150,7 @@ fn push_name(alloc: Global, line: &mut Vec<u8>, name: &Name) -> Result<(), Alloc
     Ok(())
 }
 
+/// Adds the name of a file as it prints.
 fn push_file_name<P: Platform>(
     alloc: Global,
     line: &mut Vec<u8>,
@@ -158,6 +165,7 @@ fn push_file_name<P: Platform>(
     }
 }
 
+/// The file at this place.
 fn file_at<P: Platform>(
     objects: &[ParsedInputObject<P>],
     object: Option<usize>,
@@ -167,6 +175,7 @@ fn file_at<P: Platform>(
     objects.get(object?)
 }
 
+/// Adds the line, where there is one.
 fn push_some(lines: &mut Vec<Name>, line: Option<Name>) -> Result<(), AllocError>
     ensures { OnOk result (lines.new.items ≡ lines.old.items ++ option_to_list line) }
 {

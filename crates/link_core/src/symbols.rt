@@ -1,4 +1,5 @@
-// The symbols of all files, one after another.
+//! The symbols of all files, one after another.
+
 ghost use Rattle.std.specs.Prelude.{◌≡◌, ◌++◌, ◌<◌, ◌^◌, map, length, IfOk, OnOk};
 ghost use Rattle.link_rules.specs.Plain.World.{undefined_symbol, symbol_of, symbols_of, is_definition, is_reference};
 ghost use Rattle.link_rules.specs.Plain.Lists.{is_listed};
@@ -49,6 +50,7 @@ pub fn symbols_of<P: Platform>(
     Ok(symbols)
 }
 
+/// The symbol that all undefined ones mean, with id 0.
 fn undefined_symbol(alloc: Global) -> Symbol
     ensures { result ≡ undefined_symbol }
 {
@@ -60,6 +62,7 @@ fn undefined_symbol(alloc: Global) -> Symbol
     }
 }
 
+/// Adds the symbols of an object's table.
 fn push_symbols(
     alloc: Global,
     symbols: &mut Vec<Symbol>,
@@ -74,6 +77,7 @@ fn push_symbols(
     Ok(())
 }
 
+/// What the link reads of an entry.
 fn symbol_of(alloc: Global, object: usize, entry: &SymbolEntry) -> Result<Symbol, AllocError>
     ensures { IfOk result (λ symbol. symbol ≡ symbol_of object entry.now) }
 {

@@ -1,4 +1,5 @@
-// What each symbol means.
+//! What each symbol means.
+
 ghost use Rattle.std.specs.Prelude.{◌≡◌, ℕ, ◌<◌, ◌^◌, List, map, length, IfOk};
 ghost use Rattle.std.specs.Option.{option_or};
 ghost use Rattle.link_core.specs.Found.{found, pair_of};
@@ -49,7 +50,7 @@ pub fn table_of<'a>(
     Ok(table)
 }
 
-// Where one symbol points.
+/// Where one symbol points.
 fn table_entry<'a>(
     firsts: &HashMap<&'a [u8], u32>,
     definitions: &HashMap<&'a [u8], LoadedDefinitions>,
@@ -74,7 +75,7 @@ fn table_entry<'a>(
     }
 }
 
-// The definition that counts: the first in a loaded object, else the first of all.
+/// The definition that counts: the first in a loaded object, else the first of all.
 fn choice(first: Option<u32>, known: Option<LoadedDefinitions>) -> Option<u32>
     ensures { result ≡ option_or (first_in known) first }
 {

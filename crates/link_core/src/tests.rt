@@ -1,4 +1,5 @@
-// What no clause says: that an answer comes where memory is ample.
+//! What no clause says: that an answer comes where memory is ample.
+
 use crate::link_symbols;
 use link_flags::Visibility;
 use link_input::{
@@ -28,7 +29,7 @@ fn entry(
     })
 }
 
-// An object of a null entry and global symbols of one name, which may be a member of an archive.
+/// An object of a null entry and global symbols of one name, which may be a member of an archive.
 fn object(
     alloc: Global,
     file: &str,
@@ -58,7 +59,7 @@ fn object(
     ))
 }
 
-// Two objects: one with an undefined foo, or with a definition of its own, and one that defines foo.
+/// Two objects: one with an undefined foo, or with a definition of its own, and one that defines foo.
 fn two_objects(alloc: Global, first: Place, archive: bool) -> Result<Inputs<ElfLike>, TableError> {
     let mut objects = Seq::new(alloc);
     objects.push(object(alloc, "main.o", false, &[first])?)?;

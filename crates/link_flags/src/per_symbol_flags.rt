@@ -1,4 +1,5 @@
-// A word of flags for each symbol.
+//! A word of flags for each symbol.
+
 ghost use Rattle.std.specs.Prelude.{◌≡◌, ◌==◌, ◌++◌, [], ◌∷◌, ◌+◌, ◌<◌, ◌≤◌, List, IsOk, OnOk, OnErr, length, slice_range};
 
 use crate::value_flags::{RawFlags, ValueFlags};

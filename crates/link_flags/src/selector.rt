@@ -1,4 +1,5 @@
-// The choice among the definitions of a name.
+//! The choice among the definitions of a name.
+
 ghost use Rattle.std.specs.Prelude.{◌≡◌, List};
 ghost use Rattle.link_flags.specs.Pick.{Candidate, pick};
 ghost use Rattle.link_flags.specs.Selector.{after, considered, nothing};
@@ -61,7 +62,7 @@ impl SymbolPrioritySelector {
         self.selected(weak_over_common)
     }
 
-    // What counts of what is known.
+    /// What counts of what is known.
     fn selected(&self, weak_over_common: bool) -> Option<SymbolId>
         ensures { result ≡ selected weak_over_common self.now }
     {

@@ -1,4 +1,4 @@
-// How strongly a symbol binds.
+//! How strongly a symbol binds.
 
 /// How much a definition of a name counts beside the others. Mirrors Wild's `SymbolStrength`.
 #[derive(Clone, Copy, Debug, PartialEq, Eq, Hash)]

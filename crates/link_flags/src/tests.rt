@@ -1,4 +1,5 @@
-// Tests of what no contract says.
+//! Tests of what no contract says.
+
 ghost use Rattle.std.specs.Prelude.{◌≡◌, ◌<◌, length};
 ghost use Rattle.link_flags.specs.FlagWords.{bits_at};
 
@@ -13,7 +14,7 @@ use std::fmt;
 use std::process::Abort;
 use std::test::Fail;
 
-// The value prints as this text.
+/// The value prints as this text.
 fn shows<D: fmt::Display>(
     rt: &impl Abort,
     alloc: Global,
@@ -75,7 +76,7 @@ fn flags_have_their_bits_and_names(rt: HostRuntime) -> Result<(), Fail> {
     shows(&rt, rt.alloc(), &ValueFlags::empty(), "")
 }
 
-// The flags of a symbol, as code over any keeper of flags reads them.
+/// The flags of a symbol, as code over any keeper of flags reads them.
 fn flags_of<F: FlagsForSymbol>(flags: &F, symbol: SymbolId) -> ValueFlags
     requires { symbol < length (F.words flags.now) }
     ensures { result.0 ≡ bits_at (F.words flags.now) symbol }

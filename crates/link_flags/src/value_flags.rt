@@ -1,4 +1,5 @@
-// The flags of the value of a symbol.
+//! The flags of the value of a symbol.
+
 ghost use Rattle.std.specs.Prelude.{⊤, ◌≡◌, ◌==◌, not, ◌&&◌, ◌||◌};
 ghost use Rattle.std.specs.Int.RustNames.{bit_and, bit_or};
 ghost use Rattle.std.specs.Prelude.{map};
@@ -66,7 +67,7 @@ impl Flags for ValueFlags {
 }
 
 impl ValueFlags {
-    // The flags for which a symbol needs an entry of its own in the output's tables.
+    /// The flags for which a symbol needs an entry of its own in the output's tables.
     const RESOLUTION: ValueFlags = ValueFlags(
         ValueFlags::DIRECT.0
             | ValueFlags::GOT.0
@@ -284,7 +285,7 @@ impl fmt::Display for ValueFlags {
     }
 }
 
-// Writes the names of the flags of a table that the set has.
+/// Writes the names of the flags of a table that the set has.
 fn write_flags<W: fmt::Write>(
     f: &mut fmt::Formatter<W>,
     rows: &[Flag<ValueFlags>],
@@ -302,7 +303,7 @@ fn write_flags<W: fmt::Write>(
     Ok(())
 }
 
-// Writes a name, after a bar unless it is the first.
+/// Writes a name, after a bar unless it is the first.
 fn write_piece<W: fmt::Write>(f: &mut fmt::Formatter<W>, name: &str, first: bool) -> fmt::Result
     ensures { WritesOnOk W.write_str_gives f.old result (piece first name.now) f.new }
 {

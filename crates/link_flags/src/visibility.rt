@@ -1,4 +1,5 @@
-// How far a symbol can be seen.
+//! How far a symbol can be seen.
+
 ghost use Rattle.std.specs.Prelude.{◌≡◌};
 
 /// The visibility of a symbol (ELF gABI, "Symbol Table", `st_other`), from the least strict to the strictest. Mirrors

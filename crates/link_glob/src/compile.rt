@@ -145,6 +145,7 @@ fn characters(alloc: Global, text: &str) -> Result<Vec<char>, AllocError>
     Ok(out)
 }
 
+/// The pattern that the bytes spell in this dialect.
 fn compile(alloc: Global, dialect: Dialect, pattern: &[u8]) -> Result<Pattern, GlobError>
     ensures { ReadsBytes dialect pattern.now result }
 {

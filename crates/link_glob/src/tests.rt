@@ -121,7 +121,7 @@ fn repeated(rt: &HostRuntime, piece: &[u8], n: usize, last: &[u8]) -> Result<Vec
     Ok(bytes)
 }
 
-// A body that tried every length for every star would not end here.
+/// A body that tried every length for every star would not end here.
 #[test]
 fn fifty_stars_end_at_once(rt: HostRuntime) -> Result<(), Fail> {
     let name = repeated(&rt, b"a", 10_000, b"")?;

@@ -1,4 +1,5 @@
-// What is counted of the files of groups.
+//! What is counted of the files of groups.
+
 ghost use Rattle.std.specs.Prelude.{◌≡◌, length};
 ghost use Rattle.std.specs.List.{flat_map};
 ghost use Rattle.link_groups.specs.FileCounts.{AreSmall, counts_in, file_counts, no_files, plus};
@@ -33,7 +34,7 @@ impl FileCounts {
         }
     }
 
-    // Those of some files and of others.
+    /// Those of some files and of others.
     fn plus(self, other: FileCounts) -> FileCounts
         requires some { AreSmall self }
         requires others { AreSmall other }
@@ -49,7 +50,7 @@ impl FileCounts {
     }
 }
 
-// Those of one file.
+/// Those of one file.
 fn file_counts<P: Platform>(file: &SequencedInput<'_, P>) -> FileCounts
     ensures { result ≡ file_counts (sequenced_file file.now) }
 {
@@ -76,7 +77,7 @@ fn file_counts<P: Platform>(file: &SequencedInput<'_, P>) -> FileCounts
     counts
 }
 
-// Those of the files of a group.
+/// Those of the files of a group.
 fn group_counts<P: Platform>(group: &Group<P>) -> FileCounts
     requires { AreSmall (counts_in (files_of group.now)) }
     ensures { result ≡ counts_in (files_of group.now) }

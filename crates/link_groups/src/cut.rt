@@ -1,4 +1,5 @@
-// How the objects of a link are cut into groups.
+//! How the objects of a link are cut into groups.
+
 ghost use Rattle.std.specs.Prelude.{◌≡◌, ◌<◌, ◌≤◌, ◌^◌, ◌&&◌, ◌||◌, IfOk, map, nat_lt, nat_le};
 ghost use Rattle.link_groups.specs.Cut.{IsCut, is_past, symbol_limit, symbols_in};
 
@@ -23,7 +24,7 @@ pub(crate) fn symbol_limit(workers: usize, symbols: u128) -> Option<u128>
     Some((symbols / groups).max(1))
 }
 
-// The number is past the limit, if there is one.
+/// The number is past the limit, if there is one.
 fn is_past(limit: Option<u128>, symbols: u128) -> bool
     ensures { result ≡ is_past limit symbols }
 {
@@ -33,7 +34,7 @@ fn is_past(limit: Option<u128>, symbols: u128) -> bool
     }
 }
 
-// A group with so many objects ends before the next one, with which it would have so many symbols.
+/// A group with so many objects ends before the next one, with which it would have so many symbols.
 fn ends_group(objects: usize, files: usize, limit: Option<u128>, symbols: u128) -> bool
     ensures { result ≡ (nat_lt 0 objects && (nat_le files objects || is_past limit symbols)) }
 {

@@ -1,4 +1,5 @@
-// Files in groups, which are read side by side.
+//! Files in groups, which are read side by side.
+
 ghost use Rattle.std.specs.Prelude.{◌≡◌, ◌<◌, ◌^◌, Some, length, option_map, slice_get};
 ghost use Rattle.std.specs.Fmt.{WritesOnOk};
 ghost use Rattle.link_groups.specs.Groups.{files_of, file_ids, symbol_spans, length_of_spans, RunsOn};
@@ -34,7 +35,7 @@ impl<P: Platform> Group<P> {
         self.first_file_id().group()
     }
 
-    // The id of the first file.
+    /// The id of the first file.
     fn first_file_id(&self) -> FileId
         requires { 0 < length (file_ids self.now) }
         ensures { slice_get (file_ids self.now) 0 ≡ Some result }
@@ -48,7 +49,7 @@ impl<P: Platform> Group<P> {
         }
     }
 
-    // The ids of the symbols of a file of the group.
+    /// The ids of the symbols of a file of the group.
     fn symbol_ids_of(&self, place: usize) -> SymbolIdRange
         requires there { place < length (symbol_spans self.now) }
         requires fits { length_of_spans (symbol_spans self.now) < 2 ^ 32 }
@@ -124,7 +125,7 @@ impl<P: Platform> Group<P> {
     }
 }
 
-// How many symbols objects have.
+/// How many symbols objects have.
 fn symbols_of_objects<P: Platform>(objects: &[SequencedInputObject<P>]) -> u128
     ensures { result ≡ total (λ o. o.symbol_id_range.len) objects.now }
 {
@@ -135,7 +136,7 @@ fn symbols_of_objects<P: Platform>(objects: &[SequencedInputObject<P>]) -> u128
     count
 }
 
-// Writes how many objects there are, and how many symbols they have.
+/// Writes how many objects there are, and how many symbols they have.
 fn write_objects<W: fmt::Write>(
     f: &mut fmt::Formatter<W>,
     objects: usize,

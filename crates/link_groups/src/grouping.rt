@@ -1,4 +1,5 @@
-// The inputs of a link are put into groups, one batch after another.
+//! The inputs of a link are put into groups, one batch after another.
+
 ghost use Rattle.std.specs.Prelude.{◌≡◌, ◌+◌, ◌<◌, ◌≤◌, ◌^◌, ◌⊎◌, ◌++◌, [], ◌∷◌, List, Some, None, IfOk, IfErr, OnOk, length, map, option_map};
 ghost use Rattle.std.specs.List.{flat_map};
 ghost use Rattle.link_groups.specs.declared.groups_error.GroupsError.TheVariants.{Memory};
@@ -20,7 +21,7 @@ use crate::sequencing::NextIds;
 use link_input::{Inputs, Options, Platform, Prelude};
 use std::alloc::{AllocError, Global};
 
-// The prelude's group, where no group is held.
+/// The prelude's group, where no group is held.
 fn first_groups<P: Platform>(
     alloc: Global,
     options: &Options,
@@ -35,8 +36,8 @@ fn first_groups<P: Platform>(
     Ok(groups)
 }
 
-// What is counted of the files before those of a batch: the prelude's, where no group is held, and otherwise those of the held
-// groups.
+/// What is counted of the files before those of a batch: the prelude's, where no group is held, and otherwise those of the held
+/// groups.
 fn counts_before<P: Platform>(options: &Options, held: &[Group<P>]) -> FileCounts
     requires { AreSmall (counts_in (flat_map files_of held.now)) }
     ensures value { result ≡ counts_in (flat_map files_of (held.now ++ first_groups options.now held.now)) }
@@ -51,7 +52,7 @@ fn counts_before<P: Platform>(options: &Options, held: &[Group<P>]) -> FileCount
     }
 }
 
-// The groups of inputs that ids can name, behind those that are held.
+/// The groups of inputs that ids can name, behind those that are held.
 fn groups_within_limits<P: Platform>(
     alloc: Global,
     options: &Options,

@@ -1,4 +1,5 @@
-// Why inputs can't be grouped.
+//! Why inputs can't be grouped.
+
 use link_input::TooManyKind;
 use std::alloc::AllocError;
 

@@ -1,4 +1,5 @@
-// How many inputs a link may have.
+//! How many inputs a link may have.
+
 ghost use Rattle.std.specs.Prelude.{◌≡◌, ◌+◌, ◌*◌, ◌^◌, ◌<◌, ◌≤◌, IfNone, length, map, option_map};
 ghost use Rattle.link_input.specs.InputFiles.{object, linker_script, stub_input, symbol_count, batch_of, batch_files, sections_of};
 ghost use Rattle.link_input.specs.PreludeSymbols.{prelude_symbols};
@@ -18,7 +19,7 @@ const FILE_LIMIT: u128 = 256;
 /// At most how many sections, and how many symbols, a link may have: an id has 32 bits.
 const ID_LIMIT: u128 = 4_294_967_295;
 
-// The refusal of a count past its limit.
+/// The refusal of a count past its limit.
 fn excess(kind: TooManyKind, limit: u128, count: u128) -> Option<GroupsError>
     ensures refusal { result ≡ option_map too_many (excess kind limit count) }
     ensures within { IfNone result (count ≤ limit) }
@@ -30,7 +31,7 @@ fn excess(kind: TooManyKind, limit: u128, count: u128) -> Option<GroupsError>
     }
 }
 
-// How many sections of an object have ids.
+/// How many sections of an object have ids.
 fn sections_of<P: Platform>(object: &ParsedInputObject<P>) -> u128
     ensures value { result ≡ sections_of object.now }
     ensures fits { result < 2 ^ 32 }
@@ -42,7 +43,7 @@ fn sections_of<P: Platform>(object: &ParsedInputObject<P>) -> u128
     }
 }
 
-// How many sections of objects have ids.
+/// How many sections of objects have ids.
 fn section_total<P: Platform>(objects: &[ParsedInputObject<P>]) -> u128
     requires { length objects.now < 2 ^ 25 }
     ensures value { result ≡ section_total objects.now }
@@ -68,7 +69,7 @@ pub(crate) fn object_symbols<P: Platform>(objects: &[ParsedInputObject<P>]) -> u
     count
 }
 
-// How many symbols linker scripts have.
+/// How many symbols linker scripts have.
 fn script_symbols(scripts: &[ProcessedLinkerScript]) -> u128
     requires { length scripts.now ≤ 256 }
     ensures value { result ≡ total symbol_count (map linker_script scripts.now) }
@@ -81,7 +82,7 @@ fn script_symbols(scripts: &[ProcessedLinkerScript]) -> u128
     count
 }
 
-// How many symbols stub libraries have.
+/// How many symbols stub libraries have.
 fn stub_library_symbols(stubs: &[StubLibrary]) -> u128
     requires { length stubs.now ≤ 256 }
     ensures value { result ≡ total symbol_count (map stub_input stubs.now) }
@@ -105,7 +106,7 @@ pub(crate) fn prelude_symbol_count(options: &Options) -> u128
     1 + linker + forced + redirects
 }
 
-// How many symbols the files of a batch have.
+/// How many symbols the files of a batch have.
 fn batch_symbols<P: Platform>(inputs: &Inputs<P>) -> u128
     requires objects { length inputs.now.objects < 2 ^ 25 }
     requires scripts { length inputs.now.scripts ≤ 256 }

@@ -1,4 +1,5 @@
-// Groups of files are added one after another, behind those that are held.
+//! Groups of files are added one after another, behind those that are held.
+
 ghost use Rattle.std.specs.Prelude.{◌≡◌, ◌+◌, ◌<◌, ◌≤◌, ◌^◌, [], ◌∷◌, ◌++◌, OnOk, length, map};
 ghost use Rattle.std.specs.List.{flat_map, AllByRecursion};
 ghost use Rattle.link_input.specs.InputFiles.{object, linker_script, symbol_count, section_count, stub_input};
@@ -11,7 +12,7 @@ use link_input::{ParsedInputObject, Platform, ProcessedLinkerScript, StubLibrary
 use link_names::Seq;
 use std::alloc::{AllocError, Global};
 
-// Adds a group of objects.
+/// Adds a group of objects.
 fn push_objects<P: Platform>(
     alloc: Global,
     objects: Vec<ParsedInputObject<P>>,

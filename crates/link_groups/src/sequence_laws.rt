@@ -1,4 +1,5 @@
-// Laws about the ids of the files of a link. Each is a function that does nothing: its contract is the law.
+//! Laws about the ids of the files of a link. Each is a function that does nothing: its contract is the law.
+
 ghost use Rattle.std.specs.Prelude.{◌≡◌, ◌+◌, ◌++◌, ℕ, List, Some, length, slice_get, take};
 ghost use Rattle.link_input.specs.declared.options.Options.{Options};
 ghost use Rattle.link_input.specs.InputFiles.{Batch, InputFile, input_files, section_count, symbol_count};

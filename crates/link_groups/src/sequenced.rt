@@ -1,4 +1,5 @@
-// Files with their places in a link: the ids of their symbols and sections, and the id of the file.
+//! Files with their places in a link: the ids of their symbols and sections, and the id of the file.
+
 ghost use Rattle.std.specs.Prelude.{◌≡◌, ◌<◌, Some, length, option_map, slice_get};
 ghost use Rattle.std.specs.Option.{option_and_then};
 ghost use Rattle.link_ids.specs.Span.{IsInside, offset_in};
@@ -7,7 +8,9 @@ ghost use Rattle.link_input.specs.Symbols.{section_id, stub_strength};
 ghost use Rattle.link_input.specs.ObjectFile.{is_optional};
 
 use link_flags::SymbolStrength;
-use link_ids::{FileId, InputSectionId, InputSectionIndex, SectionIdRange, SymbolId, SymbolIdRange};
+use link_ids::{
+    FileId, InputSectionId, InputSectionIndex, SectionIdRange, SymbolId, SymbolIdRange,
+};
 use link_input::{ParsedInputObject, Platform, ProcessedLinkerScript, StubSymbol, SymbolEntry};
 use link_names::{Name, Seq};
 

@@ -1,4 +1,5 @@
-// One file of a group.
+//! One file of a group.
+
 ghost use Rattle.std.specs.Prelude.{◌≡◌, Some, option_map};
 ghost use Rattle.link_ids.specs.Span.{IsInside, offset_in};
 ghost use Rattle.link_input.specs.InputFiles.{is_optional_file, is_shared_file, symbol_count};

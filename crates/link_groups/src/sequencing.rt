@@ -1,4 +1,5 @@
-// Files are given their ids, one after another.
+//! Files are given their ids, one after another.
+
 ghost use Rattle.std.specs.Prelude.{◌≡◌, ◌+◌, ◌<◌, ◌≤◌, ◌^◌, ◌++◌, IfOk, OnOk, length, map};
 ghost use Rattle.link_input.specs.InputFiles.{object, linker_script, stub_symbol, stub_symbols, symbol_count, section_count, sections_of, stub_input};
 ghost use Rattle.link_input.specs.SequencedFiles.{object_sections, sequenced};
@@ -20,7 +21,7 @@ pub(crate) struct NextIds {
 }
 
 impl NextIds {
-    // The ids of so many symbols more.
+    /// The ids of so many symbols more.
     fn take_symbols(&mut self, count: usize) -> SymbolIdRange
         requires { self.old.symbols + count < 2 ^ 32 }
         ensures ids { result ≡ record { start = self.old.symbols; len = count } }
@@ -31,7 +32,7 @@ impl NextIds {
         ids
     }
 
-    // The ids of so many sections more.
+    /// The ids of so many sections more.
     fn take_sections(&mut self, count: usize) -> SectionIdRange
         requires { self.old.sections + count < 2 ^ 32 }
         ensures ids { result ≡ record { start = self.old.sections; len = count } }
@@ -42,7 +43,7 @@ impl NextIds {
         ids
     }
 
-    // The ids of the sections of an object, which a shared object has none of.
+    /// The ids of the sections of an object, which a shared object has none of.
     fn take_object_sections<P: Platform>(&mut self, parsed: &ParsedInputObject<P>) -> SectionIdRange
         requires { self.old.sections + sections_of parsed.now < 2 ^ 32 }
         ensures ids { result ≡ object_sections self.old.sections parsed.now }
@@ -56,7 +57,7 @@ impl NextIds {
     }
 }
 
-// An object with the next ids.
+/// An object with the next ids.
 fn sequence_object<P: Platform>(
     parsed: ParsedInputObject<P>,
     file_id: FileId,
@@ -129,7 +130,7 @@ pub(crate) fn sequence_scripts(
     Ok(files)
 }
 
-// Appends symbols of a stub library.
+/// Appends symbols of a stub library.
 fn append_stub_symbols(
     symbols: &mut Vec<StubSymbol>,
     names: Seq<Name>,
@@ -143,7 +144,7 @@ fn append_stub_symbols(
     Ok(())
 }
 
-// A stub library with the next ids.
+/// A stub library with the next ids.
 fn sequence_stub(
     alloc: Global,
     stub: StubLibrary,

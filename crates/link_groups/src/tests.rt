@@ -1,4 +1,5 @@
-// Tests of the prelude, of groups, and of how files are shown.
+//! Tests of the prelude, of groups, and of how files are shown.
+
 ghost use Rattle.std.specs.Prelude.{◌≤◌};
 
 use crate::{Group, GroupsError, SyntheticSymbols, create_groups};
@@ -14,7 +15,7 @@ use link_names::{Name, Seq};
 use std::alloc::Global;
 use std::test::Fail;
 
-// An object with so many symbols and sections.
+/// An object with so many symbols and sections.
 fn object(
     alloc: Global,
     name: &[u8],
@@ -53,7 +54,7 @@ fn object(
     ))
 }
 
-// A linker script with one symbol.
+/// A linker script with one symbol.
 fn script(alloc: Global) -> Result<ProcessedLinkerScript, Fail> {
     let mut builder = InternalSymbolsBuilder::new(alloc);
     builder
@@ -67,7 +68,7 @@ fn script(alloc: Global) -> Result<ProcessedLinkerScript, Fail> {
     })
 }
 
-// A stub library with a strong symbol and a weak one.
+/// A stub library with a strong symbol and a weak one.
 fn stub(alloc: Global) -> Result<StubLibrary, Fail> {
     let mut strong = Seq::new(alloc);
     strong.push(Name::from_slice(alloc, b"open")?)?;
@@ -80,7 +81,7 @@ fn stub(alloc: Global) -> Result<StubLibrary, Fail> {
     })
 }
 
-// Inputs of these objects alone.
+/// Inputs of these objects alone.
 fn inputs_of(alloc: Global, objects: Vec<ParsedInputObject<MachLike>>) -> Inputs<MachLike> {
     Inputs {
         objects: Seq::from_vec(objects),
@@ -89,7 +90,7 @@ fn inputs_of(alloc: Global, objects: Vec<ParsedInputObject<MachLike>>) -> Inputs
     }
 }
 
-// The groups of the first batch of a link.
+/// The groups of the first batch of a link.
 fn grouped(
     alloc: Global,
     options: &Options,
@@ -103,7 +104,7 @@ fn grouped(
     create_groups(alloc, options, none.as_slice(), inputs, workers)
 }
 
-// The groups of a first batch, and those of a second one.
+/// The groups of a first batch, and those of a second one.
 fn grouped_twice(
     alloc: Global,
     options: &Options,
@@ -118,7 +119,7 @@ fn grouped_twice(
     Ok((groups, more))
 }
 
-// What groups show, a line each.
+/// What groups show, a line each.
 fn texts<P: Platform>(alloc: Global, groups: &[Group<P>]) -> Result<String, Fail> {
     let mut text = String::new(alloc);
     for group in groups {
@@ -127,7 +128,7 @@ fn texts<P: Platform>(alloc: Global, groups: &[Group<P>]) -> Result<String, Fail
     Ok(text)
 }
 
-// What the files of groups show, and their ids.
+/// What the files of groups show, and their ids.
 fn file_texts<P: Platform>(alloc: Global, groups: &[Group<P>]) -> Result<String, Fail> {
     let mut text = String::new(alloc);
     for group in groups {
@@ -235,7 +236,7 @@ fn linker_scripts_past_256_are_refused(rt: HostRuntime) -> Result<(), Fail> {
     Ok(())
 }
 
-// The group's number, and the ids of the first symbol and of the first section, of the first object of a group of objects.
+/// The group's number, and the ids of the first symbol and of the first section, of the first object of a group of objects.
 fn first_ids(group: &Group<MachLike>) -> Option<(usize, usize, usize)> {
     let Group::Objects(objects) = group else {
         return None;

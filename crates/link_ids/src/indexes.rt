@@ -1,4 +1,5 @@
-// Places in the tables of one input.
+//! Places in the tables of one input.
+
 ghost use Rattle.std.specs.Prelude.{◌≡◌, ℕ, ◌<◌, ◌^◌};
 
 use std::marker::Model;

@@ -1,4 +1,5 @@
-// The numbers of the sections of a link.
+//! The numbers of the sections of a link.
+
 ghost use Rattle.std.specs.Prelude.{◌≡◌, ℕ, ◌+◌, ◌<◌, ◌^◌, ◌↔◌, IsTrue};
 ghost use Rattle.link_ids.specs.Span.{IsInside, id_at};
 

@@ -1,4 +1,5 @@
-// Numbers that a table can be cut by.
+//! Numbers that a table can be cut by.
+
 ghost use Rattle.std.specs.Prelude.{◌≡◌, ℕ, ◌+◌, ◌<◌, ◌^◌};
 
 /// A number that counts the entries of a table from 0, so that a run of entries can be cut off and counted on. Mirrors

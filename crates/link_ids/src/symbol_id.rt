@@ -1,4 +1,5 @@
-// The number of a symbol.
+//! The number of a symbol.
+
 ghost use Rattle.std.specs.Prelude.{◌≡◌, ℕ, ◌+◌, ◌<◌, ◌≤◌, ◌^◌, ◌↔◌, IsTrue};
 ghost use Rattle.link_ids.specs.Span.{IsInside, offset_in};
 

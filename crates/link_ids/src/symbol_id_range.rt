@@ -1,4 +1,5 @@
-// Runs of symbol ids.
+//! Runs of symbol ids.
+
 ghost use Rattle.std.specs.Prelude.{◌≡◌, ℕ, ◌+◌, ◌-◌, ◌<◌, ◌≤◌, ◌^◌, ◌↔◌, IsTrue};
 ghost use Rattle.std.specs.Iterator.{YieldsFirst, item_count};
 ghost use Rattle.link_ids.specs.Span.{Span, IsInside, id_at, offset_in, ids_of, NumbersAndOffsetsAreInverse, ListsTheRun};

@@ -1,4 +1,5 @@
-// Tests of what no contract says.
+//! Tests of what no contract says.
+
 ghost use Rattle.std.specs.Prelude.{◌≡◌, ◌<◌, ◌^◌};
 
 use crate::{
@@ -57,7 +58,7 @@ fn numbers_from_2_to_the_32_are_refused(rt: HostRuntime) -> Result<(), Fail> {
     Ok(())
 }
 
-// The key n places behind the first, as code that cuts any table makes it.
+/// The key n places behind the first, as code that cuts any table makes it.
 fn key<K: ShardKey>(n: usize) -> K
     requires { n < 2 ^ 32 }
     ensures { K.number result ≡ n }
@@ -80,7 +81,7 @@ fn keys_agree_with_their_numbers(rt: HostRuntime) {
     assert_eq!(rt; PRELUDE_FILE_ID, FileId::new(0, 0));
 }
 
-// The value prints as this text.
+/// The value prints as this text.
 fn shows<D: fmt::Display>(
     rt: &impl Abort,
     alloc: Global,

@@ -1,4 +1,5 @@
-// Definitions of the linker's own symbols that are made one by one.
+//! Definitions of the linker's own symbols that are made one by one.
+
 ghost use Rattle.std.specs.Prelude.{◌≡◌, [], IfOk};
 ghost use Rattle.std.specs.Borrow.{sem};
 ghost use Rattle.link_input.specs.declared.internal_symbols.SymbolPlacement.TheVariants.{SectionStart, SectionEnd, SectionGroupEnd, PlatformSpecific};

@@ -1,4 +1,5 @@
-// The checks of a table, each over the whole table.
+//! The checks of a table, each over the whole table.
+
 ghost use Rattle.std.specs.Prelude.{◌≡◌, ◌==◌, ◌||◌, ℕ, IfOk, OnOk, length, nat_le, find};
 ghost use Rattle.std.specs.Ordering.{nat_cmp};
 ghost use Rattle.std.specs.List.{list_any};
@@ -11,7 +12,7 @@ use crate::table_error::TableError;
 use std::alloc::{AllocError, Global};
 use std::collections::BTreeSet;
 
-// The first check that a table fails, on a platform that has a null entry or has none.
+/// The first check that a table fails, on a platform that has a null entry or has none.
 pub fn first_fault(
     alloc: Global,
     has_null: bool,
@@ -31,7 +32,7 @@ pub fn first_fault(
     )
 }
 
-// The first check that the symbols fail.
+/// The first check that the symbols fail.
 fn symbol_fault(has_null: bool, sections: u32, symbols: &[SymbolEntry]) -> Option<TableError>
     ensures { result ≡ symbol_fault has_null sections symbols.now }
 {
@@ -50,7 +51,7 @@ fn symbol_fault(has_null: bool, sections: u32, symbols: &[SymbolEntry]) -> Optio
     None
 }
 
-// The first check that the groups fail.
+/// The first check that the groups fail.
 fn group_fault(
     alloc: Global,
     sections: u32,
@@ -74,7 +75,7 @@ fn group_fault(
     Ok(None)
 }
 
-// Entry 0 is there and is to stand for no symbol, and doesn't.
+/// Entry 0 is there and is to stand for no symbol, and doesn't.
 fn lacks_null(has_null: bool, symbols: &[SymbolEntry]) -> bool
     ensures { result ≡ lacks_null has_null symbols.now }
 {
@@ -84,7 +85,7 @@ fn lacks_null(has_null: bool, symbols: &[SymbolEntry]) -> bool
     }
 }
 
-// The first symbol that is undefined and local, and not the null entry.
+/// The first symbol that is undefined and local, and not the null entry.
 fn undefined_local(has_null: bool, symbols: &[SymbolEntry]) -> Option<usize>
     ensures { result ≡ first_place (is_undefined_local has_null) 0 symbols.now }
 {
@@ -96,7 +97,7 @@ fn undefined_local(has_null: bool, symbols: &[SymbolEntry]) -> Option<usize>
     None
 }
 
-// The first symbol that has no version and is not default.
+/// The first symbol that has no version and is not default.
 fn versionless_not_default(symbols: &[SymbolEntry]) -> Option<usize>
     ensures { result ≡ first_place (λ i. is_versionless_not_default) 0 symbols.now }
 {
@@ -108,7 +109,7 @@ fn versionless_not_default(symbols: &[SymbolEntry]) -> Option<usize>
     None
 }
 
-// The first symbol that stands in a section that isn't there.
+/// The first symbol that stands in a section that isn't there.
 fn outside_section(sections: u32, symbols: &[SymbolEntry]) -> Option<usize>
     ensures { result ≡ first_place (λ i. is_outside sections) 0 symbols.now }
 {
@@ -120,7 +121,7 @@ fn outside_section(sections: u32, symbols: &[SymbolEntry]) -> Option<usize>
     None
 }
 
-// The symbol stands in a section that isn't there.
+/// The symbol stands in a section that isn't there.
 fn stands_outside(sections: u32, symbol: &SymbolEntry) -> bool
     ensures { result ≡ is_outside sections symbol.now }
 {
@@ -130,7 +131,7 @@ fn stands_outside(sections: u32, symbol: &SymbolEntry) -> bool
     }
 }
 
-// The first group whose signature is no symbol of so many.
+/// The first group whose signature is no symbol of so many.
 fn outside_signature(symbols: usize, groups: &[SectionGroup]) -> Option<usize>
     ensures { result ≡ first_place (λ i g. nat_le symbols g.signature_symbol) 0 groups.now }
 {
@@ -142,7 +143,7 @@ fn outside_signature(symbols: usize, groups: &[SectionGroup]) -> Option<usize>
     None
 }
 
-// The first group that names a section that isn't there.
+/// The first group that names a section that isn't there.
 fn missing_member(sections: u32, groups: &[SectionGroup]) -> Option<TableError>
     ensures { result ≡ missing_member sections 0 groups.now }
 {
@@ -154,7 +155,7 @@ fn missing_member(sections: u32, groups: &[SectionGroup]) -> Option<TableError>
     None
 }
 
-// The header of a group, or its first member, that isn't there.
+/// The header of a group, or its first member, that isn't there.
 fn missing_section(sections: u32, group: &SectionGroup) -> Option<u32>
     ensures { result ≡ missing_section sections group.now }
 {
@@ -164,14 +165,14 @@ fn missing_section(sections: u32, group: &SectionGroup) -> Option<u32>
     first_outside(sections, group.members.as_slice())
 }
 
-// The first member that isn't there.
+/// The first member that isn't there.
 fn first_outside(sections: u32, members: &[u32]) -> Option<u32>
     ensures { result ≡ find (λ n. nat_le sections n) members.now }
 {
     members.iter().copied().find(|member| sections <= *member)
 }
 
-// The first group whose header heads an earlier one.
+/// The first group whose header heads an earlier one.
 fn repeated_header(alloc: Global, groups: &[SectionGroup]) -> Result<Option<usize>, AllocError>
     ensures { IfOk result (λ place. place ≡ first_place (repeats_header groups.now) 0 groups.now) }
 {
@@ -184,7 +185,7 @@ fn repeated_header(alloc: Global, groups: &[SectionGroup]) -> Result<Option<usiz
     Ok(None)
 }
 
-// The first group whose header is a member of a group.
+/// The first group whose header is a member of a group.
 fn member_header(alloc: Global, groups: &[SectionGroup]) -> Result<Option<usize>, AllocError>
     ensures { IfOk result (λ place. place ≡ first_place (λ i. has_member_header groups.now) 0 groups.now) }
 {
@@ -192,7 +193,7 @@ fn member_header(alloc: Global, groups: &[SectionGroup]) -> Result<Option<usize>
     Ok(first_header_in(&members, groups))
 }
 
-// The first group whose header is among the sections.
+/// The first group whose header is among the sections.
 fn first_header_in(sections: &BTreeSet<u32>, groups: &[SectionGroup]) -> Option<usize>
     ensures { result ≡ first_place (λ i g. contains nat_cmp sections.now g.index) 0 groups.now }
 {
@@ -204,7 +205,7 @@ fn first_header_in(sections: &BTreeSet<u32>, groups: &[SectionGroup]) -> Option<
     None
 }
 
-// The members of all groups.
+/// The members of all groups.
 fn members_of(alloc: Global, groups: &[SectionGroup]) -> Result<BTreeSet<u32>, AllocError>
     ensures { IfOk result (λ sections. (q : ℕ) → contains nat_cmp sections q ≡ is_member groups.now q) }
 {
@@ -215,7 +216,7 @@ fn members_of(alloc: Global, groups: &[SectionGroup]) -> Result<BTreeSet<u32>, A
     Ok(sections)
 }
 
-// Adds the members to the sections.
+/// Adds the members to the sections.
 fn add_all(sections: &mut BTreeSet<u32>, members: &[u32]) -> Result<(), AllocError>
     ensures { OnOk result ((q : ℕ) → contains nat_cmp sections.new q ≡ (contains nat_cmp sections.old q || list_any (λ member. member == q) members.now)) }
 {

@@ -1,11 +1,12 @@
-// Copies of the linker's own symbols.
+//! Copies of the linker's own symbols.
+
 ghost use Rattle.std.specs.Prelude.{◌≡◌, IfOk};
 
 use crate::internal_symbols::{InternalSymDefInfo, Redirect, SymbolPlacement};
 use link_names::{Name, Seq};
 use std::alloc::{AllocError, Global};
 
-// Copies of names, in order.
+/// Copies of names, in order.
 fn copies_of(alloc: Global, names: &[Name]) -> Result<Seq<Name>, AllocError>
     ensures { IfOk result (λ copies. copies ≡ names.now) }
 {

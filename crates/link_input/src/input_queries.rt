@@ -1,4 +1,5 @@
-// What linker scripts and stub libraries are called, and how many symbols they have.
+//! What linker scripts and stub libraries are called, and how many symbols they have.
+
 ghost use Rattle.std.specs.Prelude.{◌≡◌, ◌+◌, length};
 
 use crate::world::{ProcessedLinkerScript, StubLibrary};

@@ -1,4 +1,5 @@
-// Symbols that no object gives: the linker's own, those of the options, and those of linker scripts.
+//! Symbols that no object gives: the linker's own, those of the options, and those of linker scripts.
+
 use link_names::{Name, Seq};
 
 /// Who defined a symbol as another name: `--defsym`, or a linker script, there perhaps by `PROVIDE`.

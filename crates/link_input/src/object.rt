@@ -1,4 +1,5 @@
-// Objects with their symbol tables.
+//! Objects with their symbol tables.
+
 ghost use Rattle.std.specs.Prelude.{◌≡◌, ◌<◌, ◌⊎◌, Some, None, IfOk, IfErr, IfSome, OnOk, All, length, option_map, option_and_then, slice_get};
 ghost use Rattle.link_input.specs.declared.table_error.TableError.TheVariants.{Memory};
 ghost use Rattle.link_input.specs.Entries.{section_of};

@@ -1,4 +1,5 @@
-// What the user asks of a link.
+//! What the user asks of a link.
+
 ghost use Rattle.std.specs.Prelude.{◌≡◌};
 ghost use Rattle.link_input.specs.Defaults.{default_options};
 

@@ -1,4 +1,5 @@
-// What kind of output is linked.
+//! What kind of output is linked.
+
 ghost use Rattle.std.specs.Prelude.{◌≡◌};
 ghost use Rattle.link_input.specs.Outputs.{is_shared_object, is_dynamic_executable};
 

@@ -1,4 +1,5 @@
-// Objects with the names of their files.
+//! Objects with the names of their files.
+
 ghost use Rattle.std.specs.Prelude.{◌≡◌, length};
 
 use crate::object::InputObject;

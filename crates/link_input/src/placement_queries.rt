@@ -1,4 +1,5 @@
-// Where the linker's own symbols stand, and what is said of their redirects.
+//! Where the linker's own symbols stand, and what is said of their redirects.
+
 ghost use Rattle.std.specs.Prelude.{◌≡◌, IfOk, false, true};
 ghost use Rattle.std.specs.String.{string_bytes};
 ghost use Rattle.link_input.specs.Locations.{loc_section, relative_section, placement_section};

@@ -1,4 +1,5 @@
-// What differs from platform to platform.
+//! What differs from platform to platform.
+
 ghost use Rattle.std.specs.Prelude.{◌≡◌, ℕ, Bool, true, false, List, Option, Result, Ok, IfOk, IfErr};
 ghost use Rattle.link_syntax.specs.declared.fault.Fault.{Fault};
 ghost use Rattle.link_syntax.specs.Fault.{Refuses};
@@ -113,7 +114,7 @@ impl Platform for MachLike {
     }
 }
 
-// The rule of both platforms, of which one has lists that restrict.
+/// The rule of both platforms, of which one has lists that restrict.
 fn keeps_place(
     lists_restrict: bool,
     symbol: &SymbolEntry,

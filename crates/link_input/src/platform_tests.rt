@@ -1,16 +1,17 @@
-// Tests of the readers of export lists.
+//! Tests of the readers of export lists.
+
 use crate::{ElfLike, MachLike, Platform};
 use link_script::{ExportList, Plain};
 use link_syntax::ScriptFault;
 use std::alloc::Global;
 use std::test::Fail;
 
-// The list that a text spells on a platform.
+/// The list that a text spells on a platform.
 fn list_of<P: Platform>(alloc: Global, text: &[u8]) -> Result<ExportList, Fail> {
     Ok(P::parse_export_list(alloc, text).ok().ok_or("a list")?)
 }
 
-// What is said of a text on a platform.
+/// What is said of a text on a platform.
 fn told<P: Platform>(alloc: Global, text: &[u8]) -> Result<String, Fail> {
     match P::parse_export_list(alloc, text) {
         Ok(_) => Ok(format!(in alloc; "read")?),

@@ -1,4 +1,5 @@
-// The symbols that stand before those of all files.
+//! The symbols that stand before those of all files.
+
 ghost use Rattle.std.specs.Prelude.{◌≡◌, ◌<◌, ◌^◌, ◌++◌, Some, IfOk, OnOk, length, map, option_map, slice_get};
 ghost use Rattle.link_input.specs.PreludeSymbols.{forced_symbol, prelude_symbols};
 
@@ -25,7 +26,7 @@ impl Model for Prelude {
     ghost view = { λ p. p.symbols.items };
 }
 
-// Appends copies of definitions.
+/// Appends copies of definitions.
 fn append_copies(
     alloc: Global,
     symbols: &mut Vec<InternalSymDefInfo>,
@@ -39,7 +40,7 @@ fn append_copies(
     Ok(())
 }
 
-// Appends a symbol for each name that is forced to be undefined.
+/// Appends a symbol for each name that is forced to be undefined.
 fn append_forced(symbols: &mut Vec<InternalSymDefInfo>, names: &[Name]) -> Result<(), AllocError>
     ensures { OnOk result (symbols.new.items ≡ symbols.old.items ++ map forced_symbol names.now) }
 {

@@ -1,4 +1,5 @@
-// Segments by name.
+//! Segments by name.
+
 ghost use Rattle.std.specs.Prelude.{◌≡◌};
 ghost use Rattle.link_input.specs.Segments.{segment_of};
 

@@ -1,4 +1,5 @@
-// One entry of the symbol table of an object.
+//! One entry of the symbol table of an object.
+
 use link_flags::Visibility;
 use link_names::Name;
 

@@ -1,4 +1,5 @@
-// What an entry of a symbol table says.
+//! What an entry of a symbol table says.
+
 ghost use Rattle.std.specs.Prelude.{◌≡◌};
 ghost use Rattle.link_input.specs.Entries.{is_undefined, is_absolute, is_common, section_of, is_func, is_ifunc, is_tls, is_local, is_weak, is_hidden};
 ghost use Rattle.link_input.specs.BindingStrength.{binding_strength};

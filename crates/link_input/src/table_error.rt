@@ -1,4 +1,5 @@
-// Why a table is refused.
+//! Why a table is refused.
+
 ghost use Rattle.std.specs.Fmt.{WritesOnOk};
 ghost use Rattle.link_input.specs.declared.table_error.TableError.TheVariants.{MemberRange, HeaderIsMember};
 ghost use Rattle.link_input.specs.TableErrorText.{table_error_text};
@@ -41,7 +42,7 @@ impl From<AllocError> for TableError {
     }
 }
 
-// Says that a group names a section that isn't there.
+/// Says that a group names a section that isn't there.
 fn write_member_range<W: fmt::Write>(
     f: &mut fmt::Formatter<W>,
     group: usize,
@@ -52,7 +53,7 @@ fn write_member_range<W: fmt::Write>(
     write!(f, "group {group} has no section {section}")
 }
 
-// Says that the header of a group is a member.
+/// Says that the header of a group is a member.
 fn write_member_header<W: fmt::Write>(f: &mut fmt::Formatter<W>, group: usize) -> fmt::Result
     ensures { WritesOnOk W.write_str_gives f.old result (table_error_text (HeaderIsMember group)) f.new }
 {

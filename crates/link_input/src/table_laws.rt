@@ -1,4 +1,5 @@
-// Laws about the checks of a table. Each is a function that does nothing: its contract is the law.
+//! Laws about the checks of a table. Each is a function that does nothing: its contract is the law.
+
 ghost use Rattle.std.specs.Prelude.{◌≡◌, ◌≢◌, ◌<◌, ◌∷◌, ℕ, Bool, true, false, [], Some, None, IsTrue, IfSome, All, AllPairs, Contains, length, is_none, slice_get};
 ghost use Rattle.link_input.specs.declared.symbol_entry.SymbolEntry.{SymbolEntry};
 ghost use Rattle.link_input.specs.declared.object.ObjectTable.{ObjectTable};

@@ -1,4 +1,5 @@
-// Tests of the checks of a table, and of what is said of one that is refused.
+//! Tests of the checks of a table, and of what is said of one that is refused.
+
 use crate::{
     ElfLike, InputObject, MachLike, ObjectTable, Place, Platform, SectionGroup, SymbolBinding,
     SymbolEntry, SymbolKind, TableError,
@@ -9,10 +10,10 @@ use link_names::{Name, Seq};
 use std::alloc::{AllocError, Global};
 use std::test::Fail;
 
-// A symbol of no version: its name, how it binds, where it stands, and whether it is default.
+/// A symbol of no version: its name, how it binds, where it stands, and whether it is default.
 type Symbol<'a> = (&'a str, SymbolBinding, Place, bool);
 
-// A group: its header, its signature, its members.
+/// A group: its header, its signature, its members.
 type Group<'a> = (u32, u32, &'a [u32]);
 
 const NULL: Symbol<'static> = ("", SymbolBinding::Local, Place::Undefined, true);
@@ -27,7 +28,7 @@ const INSIDE: Symbol<'static> = ("f", SymbolBinding::Unique, Place::Section(3), 
 
 const OUTSIDE: Symbol<'static> = ("o", SymbolBinding::Local, Place::Section(4), true);
 
-// A table of four sections.
+/// A table of four sections.
 fn table(alloc: Global, symbols: &[Symbol], groups: &[Group]) -> Result<ObjectTable, AllocError> {
     let mut entries = Seq::new(alloc);
     for (name, binding, place, is_default) in symbols {
@@ -60,7 +61,7 @@ fn table(alloc: Global, symbols: &[Symbol], groups: &[Group]) -> Result<ObjectTa
     })
 }
 
-// What is said of a table on a platform.
+/// What is said of a table on a platform.
 fn told<P: Platform>(alloc: Global, table: ObjectTable) -> Result<String, AllocError> {
     match InputObject::<P>::new(alloc, table) {
         Ok(_) => String::from_str(alloc, "accepted"),
@@ -68,7 +69,7 @@ fn told<P: Platform>(alloc: Global, table: ObjectTable) -> Result<String, AllocE
     }
 }
 
-// Tables on a platform that has a null entry, and what is said of each.
+/// Tables on a platform that has a null entry, and what is said of each.
 const ROWS: [(
     &'static [Symbol<'static>],
     &'static [Group<'static>],
@@ -136,7 +137,7 @@ fn each_check_tells_the_least_place(rt: HostRuntime) -> Result<(), Fail> {
     Ok(())
 }
 
-// Whether the second symbol and the first group of a table are as they were put in, on a platform.
+/// Whether the second symbol and the first group of a table are as they were put in, on a platform.
 fn is_read<P: Platform>(alloc: Global, table: ObjectTable) -> Result<bool, TableError> {
     let object = InputObject::<P>::new(alloc, table)?;
     if object.num_symbols() < 2 || object.groups().is_empty() {

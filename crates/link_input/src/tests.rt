@@ -1,4 +1,5 @@
-// Tests of the texts of redirects, and that what needs memory is made where there is enough of it.
+//! Tests of the texts of redirects, and that what needs memory is made where there is enough of it.
+
 use crate::{
     InternalSymDefInfo, InternalSymbolsBuilder, LocationCounter, Options, Prelude, Redirect,
     RedirectKind, SymbolLoc, SymbolPlacement,
@@ -23,7 +24,7 @@ fn missing_symbols_are_named(rt: HostRuntime) -> Result<(), Fail> {
     Ok(())
 }
 
-// A redirect to two names, of which one is no text.
+/// A redirect to two names, of which one is no text.
 fn redirect(alloc: Global, kind: RedirectKind, loc: SymbolLoc) -> Result<Redirect, AllocError> {
     let mut targets = Seq::new(alloc);
     targets.push(Name::from_slice(alloc, b"x")?)?;
@@ -31,7 +32,7 @@ fn redirect(alloc: Global, kind: RedirectKind, loc: SymbolLoc) -> Result<Redirec
     Ok(Redirect { kind, targets, loc })
 }
 
-// A definition at each kind of place, and redirects of each kind and to each kind of place.
+/// A definition at each kind of place, and redirects of each kind and to each kind of place.
 fn placements(alloc: Global) -> Result<Vec<SymbolPlacement>, AllocError> {
     let mut placements = vec![in alloc;
         SymbolPlacement::Undefined,
@@ -82,7 +83,7 @@ fn each_placement_is_copied(rt: HostRuntime) -> Result<(), Fail> {
     Ok(())
 }
 
-// The names of definitions, and which are hidden.
+/// The names of definitions, and which are hidden.
 fn shown(alloc: Global, definitions: &[InternalSymDefInfo]) -> Result<String, AllocError> {
     let mut text = String::new(alloc);
     for definition in definitions {

@@ -1,4 +1,4 @@
-// What there can be too many of in a link.
+//! What there can be too many of in a link.
 
 /// What there can be too many of.
 #[derive(Clone, Copy, Debug, PartialEq, Eq)]

@@ -1,4 +1,5 @@
-// The files of a link, and all that goes with them.
+//! The files of a link, and all that goes with them.
+
 use crate::internal_symbols::InternalSymDefInfo;
 use crate::options::Options;
 use crate::parsed_object::ParsedInputObject;

@@ -1,4 +1,5 @@
-// What a manifest says, before any table of it is checked; no platform stands in its type.
+//! What a manifest says, before any table of it is checked; no platform stands in its type.
+
 use link_input::{Modifiers, ObjectTable, Options};
 use link_names::{Name, Seq};
 use std::marker::Model;

@@ -1,4 +1,5 @@
-// Where a manifest is at fault, and how.
+//! Where a manifest is at fault, and how.
+
 ghost use Rattle.std.specs.Prelude.{◌≡◌};
 ghost use Rattle.std.specs.Fmt.{WritesOnOk};
 ghost use Rattle.link_manifest.specs.declared.fault.ManifestError.TheVariants.{Memory};
@@ -123,7 +124,7 @@ impl fmt::Display for Problem {
     }
 }
 
-// Writes the first step of a path.
+/// Writes the first step of a path.
 fn write_first_step<W: fmt::Write>(f: &mut fmt::Formatter<W>, step: &Step) -> fmt::Result
     ensures { WritesOnOk W.write_str_gives f.old result (first_step_text step.now) f.new }
 {
@@ -133,7 +134,7 @@ fn write_first_step<W: fmt::Write>(f: &mut fmt::Formatter<W>, step: &Step) -> fm
     }
 }
 
-// Writes a step behind others.
+/// Writes a step behind others.
 fn write_step<W: fmt::Write>(f: &mut fmt::Formatter<W>, step: &Step) -> fmt::Result
     ensures { WritesOnOk W.write_str_gives f.old result (step_text step.now) f.new }
 {
@@ -143,7 +144,7 @@ fn write_step<W: fmt::Write>(f: &mut fmt::Formatter<W>, step: &Step) -> fmt::Res
     }
 }
 
-// Writes a path.
+/// Writes a path.
 fn write_path<W: fmt::Write>(f: &mut fmt::Formatter<W>, path: &[Step]) -> fmt::Result
     ensures { WritesOnOk W.write_str_gives f.old result (path_text path.now) f.new }
 {

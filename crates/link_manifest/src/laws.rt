@@ -1,4 +1,5 @@
-// Worked examples of the definitions, which the checker computes.
+//! Worked examples of the definitions, which the checker computes.
+
 ghost use Rattle.std.specs.Prelude.{◌≡◌, [], ◌∷◌, codes, false, true};
 ghost use Rattle.link_manifest.specs.FaultText.{fault_text};
 ghost use Rattle.link_manifest.specs.Manifest.{manifest_of, elf_manifest, contents_of, modifiers_of, regular_object, global_symbol};

@@ -1,4 +1,5 @@
-// A manifest, and which bytes are one.
+//! A manifest, and which bytes are one.
+
 ghost use Rattle.std.specs.Prelude.{◌≡◌, Ok, Err, IfOk, IfErr, IsErrOf};
 ghost use Rattle.serde_json.specs.View.{view};
 ghost use Rattle.link_manifest.specs.declared.fault.ManifestFault.{ManifestFault};

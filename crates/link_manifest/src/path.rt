@@ -1,4 +1,5 @@
-// Where a fault is: how it is told of a value, and seen from further and further out.
+//! Where a fault is: how it is told of a value, and seen from further and further out.
+
 ghost use Rattle.std.specs.Prelude.{◌≡◌, Result, IfOk};
 ghost use Rattle.link_manifest.specs.declared.fault.Step.TheVariants.{Key, Item};
 ghost use Rattle.link_manifest.specs.declared.fault.ManifestFault.{ManifestFault};
@@ -55,7 +56,7 @@ pub(crate) fn error_at_key(alloc: Global, key: &str, error: ManifestError) -> Ma
     }
 }
 
-/// An error of an item, seen from its list.
+/// An error of an item, with the item's place in front of its path.
 pub(crate) fn error_at_item(place: usize, error: ManifestError) -> ManifestError
     ensures { IsSeenFrom (Item place) error result }
 {
@@ -82,7 +83,7 @@ pub(crate) fn at_key<T: Drop>(
     }
 }
 
-/// What was read of an item, seen from its list.
+/// What was read of an item; a fault in it has the item's place put in front of its path.
 pub(crate) fn at_item<T: Drop>(
     place: usize,
     read: Result<T, ManifestError>,

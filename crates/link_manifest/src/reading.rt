@@ -1,4 +1,5 @@
-// How a value of the manifest is read, whatever its kind.
+//! How a value of the manifest is read, whatever its kind.
+
 ghost use Rattle.std.specs.Prelude.{◌≡◌, [], map, option_map, Result};
 ghost use Rattle.std.specs.List.{list_any};
 ghost use Rattle.std.specs.Str.{bytes_eq};

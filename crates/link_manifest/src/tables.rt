@@ -1,4 +1,5 @@
-// The tables of the objects of a manifest that is read.
+//! The tables of the objects of a manifest that is read.
+
 ghost use Rattle.std.specs.Prelude.{◌≡◌, None, IfOk, IfErr};
 ghost use Rattle.link_input.specs.Checks.{first_fault};
 ghost use Rattle.link_manifest.specs.declared.fault.Step.TheVariants.{Item};

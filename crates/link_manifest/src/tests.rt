@@ -1,5 +1,6 @@
-// What no clause says: that a manifest is read with ample memory, and that the definitions say what
-// is meant. Each row has a manifest and the text of its fault, or `read` where it has none.
+//! What no clause says: that a manifest is read with ample memory, and that the definitions say what
+//! is meant. Each row has a manifest and the text of its fault, or `read` where it has none.
+
 use crate::{Manifest, ManifestError, manifest_of};
 use link_input::{ElfLike, Place, SymbolBinding, World};
 use std::alloc::{AllocError, Global};

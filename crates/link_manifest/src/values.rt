@@ -1,4 +1,5 @@
-// The kinds of value of a manifest that hold no further keys.
+//! The kinds of value of a manifest that hold no further keys.
+
 ghost use Rattle.std.specs.Prelude.{◌≡◌, option_map};
 ghost use Rattle.serde_json.specs.Find.{as_str};
 ghost use Rattle.serde_json.specs.View.{view, members_view};

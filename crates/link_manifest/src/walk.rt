@@ -1,4 +1,5 @@
-// What a manifest is made of: the keys of its objects in their order.
+//! What a manifest is made of: the keys of its objects in their order.
+
 ghost use Rattle.std.specs.Prelude.{◌≡◌, ◌∷◌, IfOk, IfErr};
 ghost use Rattle.serde_json.specs.View.{view};
 ghost use Rattle.link_manifest.specs.declared.fault.ManifestError.TheVariants.{Memory};

@@ -1,4 +1,5 @@
-// That comparisons agree.
+//! That comparisons agree.
+
 ghost use Rattle.std.specs.Prelude.{◌≡◌, ◌↔◌, IsTrue};
 ghost use Rattle.std.specs.declared.cmp.Ordering.TheVariants.{Equal};
 

@@ -1,4 +1,5 @@
-// The hash number of bytes.
+//! The hash number of bytes.
+
 ghost use Rattle.std.specs.Prelude.{◌≡◌};
 ghost use Rattle.link_names.specs.NameHash.{fnv_1a};
 

@@ -1,4 +1,5 @@
-// A name, which a contract sees as its bytes.
+//! A name, which a contract sees as its bytes.
+
 ghost use Rattle.std.specs.Prelude.{◌≡◌, ◌==◌, List, ℕ, IfOk, length, nat_eq};
 ghost use Rattle.std.specs.Str.{bytes_eq};
 ghost use Rattle.std.specs.Hash as fed;

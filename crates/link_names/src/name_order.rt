@@ -1,4 +1,5 @@
-// The order of names: that of their bytes.
+//! The order of names: that of their bytes.
+
 use crate::name::Name;
 use std::cmp::Ordering;
 

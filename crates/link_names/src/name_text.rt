@@ -1,4 +1,5 @@
-// How names are shown.
+//! How names are shown.
+
 ghost use Rattle.std.specs.Prelude.{◌≡◌, Some, None, option_map, if◌then◌else◌};
 ghost use Rattle.std.specs.Str.{is_utf8};
 ghost use Rattle.std.specs.Fmt.{WritesOnOk};
@@ -26,7 +27,7 @@ pub fn write_name<W: fmt::Write>(f: &mut fmt::Formatter<W>, bytes: &[u8]) -> fmt
     }
 }
 
-// Writes bytes that are no text.
+/// Writes bytes that are no text.
 fn write_invalid<W: fmt::Write>(f: &mut fmt::Formatter<W>, bytes: &[u8]) -> fmt::Result
     ensures { WritesOnOk W.write_str_gives f.old result (invalid_text bytes.now) f.new }
 {
@@ -35,7 +36,7 @@ fn write_invalid<W: fmt::Write>(f: &mut fmt::Formatter<W>, bytes: &[u8]) -> fmt:
     f.write_str("])")
 }
 
-// Writes the numbers of bytes with commas between them.
+/// Writes the numbers of bytes with commas between them.
 fn write_numbers<W: fmt::Write>(f: &mut fmt::Formatter<W>, bytes: &[u8]) -> fmt::Result
     ensures { WritesOnOk W.write_str_gives f.old result (numbers_text bytes.now) f.new }
 {

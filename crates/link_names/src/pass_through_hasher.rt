@@ -1,4 +1,5 @@
-// A hasher for values that carry their hash number.
+//! A hasher for values that carry their hash number.
+
 ghost use Rattle.std.specs.Prelude.{◌≡◌};
 
 use crate::pre_hashed::{NameHash, PreHashed};

@@ -1,4 +1,5 @@
-// Values that carry their hash number.
+//! Values that carry their hash number.
+
 ghost use Rattle.std.specs.Prelude.{◌≡◌, ℕ, ◌<◌, ◌^◌, IsTrue};
 ghost use Rattle.std.specs.Hash as fed;
 

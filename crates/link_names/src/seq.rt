@@ -1,4 +1,5 @@
-// An owned list, which a contract sees as a list.
+//! An owned list, which a contract sees as a list.
+
 ghost use Rattle.std.specs.Prelude.{◌≡◌, ◌++◌, [], ◌∷◌, ◌==◌, OnOk, OnErr, IfOk, length};
 
 use std::alloc::{AllocError, Global};

@@ -1,4 +1,5 @@
-// Names and texts that mean something of their own.
+//! Names and texts that mean something of their own.
+
 ghost use Rattle.std.specs.Prelude.{◌≡◌, ◌≤◌};
 ghost use Rattle.std.specs.Str.Parse.{ParsesUnsigned};
 ghost use Rattle.link_names.specs.SpecialNames.{is_mapping_name, base_of, numeral_of};
@@ -22,7 +23,7 @@ pub fn parse_number(text: &str) -> Result<u64, ()>
     }
 }
 
-// The number of digits, with at most one plus before them.
+/// The number of digits, with at most one plus before them.
 fn parse_digits(digits: &str, radix: u32) -> Result<u64, ()>
     requires lower_bound { 2 ≤ radix }
     requires upper_bound { radix ≤ 36 }

@@ -1,4 +1,5 @@
-// The names that symbols are found by.
+//! The names that symbols are found by.
+
 ghost use Rattle.std.specs.Prelude.{◌≡◌, List, ℕ, nat_eq};
 ghost use Rattle.std.specs.Hash as fed;
 ghost use Rattle.std.specs.Cmp.Lexicographic.{pointwise, nat_list_eq_equiv};

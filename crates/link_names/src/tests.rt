@@ -1,4 +1,5 @@
-// Tests of what no contract says.
+//! Tests of what no contract says.
+
 use crate::{
     Name, PassThroughHasher, PreHashed, PreHashedSymbolName, Seq, UnversionedSymbolName,
     VersionedSymbolName, hash_bytes, is_mapping_symbol_name, number_in_map, parse_number, text_of,
@@ -9,7 +10,7 @@ use std::fmt;
 use std::process::Abort;
 use std::test::Fail;
 
-// The value prints as this text.
+/// The value prints as this text.
 fn shows<D: fmt::Display>(
     rt: &impl Abort,
     alloc: Global,
@@ -48,7 +49,7 @@ fn a_list_grows(rt: HostRuntime) -> Result<(), Fail> {
     Ok(())
 }
 
-// Of the authors' test suite of FNV.
+/// Of the authors' test suite of FNV.
 const HASHES: &[(&[u8], u64)] = &[
     (b"", 0xcbf2_9ce4_8422_2325),
     (b"a", 0xaf63_dc4c_8601_ec8c),

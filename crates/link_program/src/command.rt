@@ -1,4 +1,5 @@
-// What the words of the command line ask for.
+//! What the words of the command line ask for.
+
 ghost use Rattle.std.specs.Prelude.{◌≡◌, ◌≢◌, ℕ, ◌≤◌, decimal, slice_index, IfSome, IfNone};
 ghost use Rattle.link_program.specs.Grammar.{IsCommand, IsNoCommand};
 
@@ -28,7 +29,7 @@ pub fn command_of(words: &[Word]) -> Option<Command>
     }
 }
 
-// The number from 1 to `most` that a word writes in decimal digits, without a sign or a leading zero.
+/// The number from 1 to `most` that a word writes in decimal digits, without a sign or a leading zero.
 fn number_of(word: &Word, most: usize) -> Option<usize>
     ensures number { IfSome result (λ n. word.now ≡ decimal n) }
     ensures in_range { IfSome result (λ n. (1 ≤ n) × (n ≤ most)) }
@@ -46,7 +47,7 @@ fn number_of(word: &Word, most: usize) -> Option<usize>
     }
 }
 
-// The first byte of a text, or 0 where there is none.
+/// The first byte of a text, or 0 where there is none.
 fn first_byte(text: &str) -> u8
     ensures { result ≡ slice_index text.now 0 }
 {

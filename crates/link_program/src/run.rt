@@ -1,4 +1,5 @@
-// The program, over any source and sink.
+//! The program, over any source and sink.
+
 ghost use Rattle.std.specs.Prelude.{◌≡◌, ◌≢◌, ◌⊎◌, ◌+◌, ◌^◌, ◌++◌, codes, IfOk};
 ghost use Rattle.link_manifest.specs.FaultText.{fault_text};
 ghost use Rattle.link_rules.specs.Places.{Bytes};
@@ -72,7 +73,7 @@ pub fn run<R: Threads + Sync, S: Source, K: Sink>(
     }
 }
 
-// The answer to the words.
+/// The answer to the words.
 fn answer_to<S: Source>(alloc: Global, words: &[Word], source: &mut S) -> Result<Answer, AllocError>
     ensures text { IfOk result (λ a. IsTextFor words.now (S.left source.old) a.status a.text.items) }
     ensures nothing_left { IfOk result (λ a. (a.status ≡ Status.Linked) ⊎ (a.status ≡ Status.Refused) → IsAtEnd (S.left source.new)) }
@@ -87,7 +88,7 @@ fn answer_to<S: Source>(alloc: Global, words: &[Word], source: &mut S) -> Result
     }
 }
 
-// The answer to a link of what a source has left.
+/// The answer to a link of what a source has left.
 fn answer_to_link<S: Source>(
     alloc: Global,
     workers: usize,
@@ -113,7 +114,7 @@ fn answer_to_link<S: Source>(
     }
 }
 
-// The answer to a link of what these bytes describe.
+/// The answer to a link of what these bytes describe.
 fn answer_to_bytes(alloc: Global, workers: usize, bytes: &[u8]) -> Result<Answer, AllocError>
     requires in_range { IsInRange (Command.Link workers) }
     ensures { IfOk result (λ a. IsTextOf bytes.now a.status a.text.items) }
@@ -126,7 +127,7 @@ fn answer_to_bytes(alloc: Global, workers: usize, bytes: &[u8]) -> Result<Answer
     }
 }
 
-// The answer to a link of this world.
+/// The answer to a link of this world.
 fn answer_to_world<P: Platform>(
     alloc: Global,
     workers: usize,
@@ -151,7 +152,7 @@ fn answer_to_world<P: Platform>(
     }
 }
 
-// The answer to bytes that are no manifest.
+/// The answer to bytes that are no manifest.
 fn fault_answer(alloc: Global, fault: &ManifestFault) -> Result<Answer, AllocError>
     ensures status { IfOk result (λ a. a.status ≡ Status.Manifest) }
     ensures text { IfOk result (λ a. a.text.items ≡ error_line (codes "manifest: " ++ fault_text fault.now)) }
@@ -160,7 +161,7 @@ fn fault_answer(alloc: Global, fault: &ManifestFault) -> Result<Answer, AllocErr
     error_answer(alloc, Status::Manifest, what.as_bytes())
 }
 
-// The answer of a line that tells an error.
+/// The answer of a line that tells an error.
 fn error_answer(alloc: Global, status: Status, what: &[u8]) -> Result<Answer, AllocError>
     ensures status { IfOk result (λ a. a.status ≡ status) }
     ensures text { IfOk result (λ a. a.text.items ≡ error_line what.now) }

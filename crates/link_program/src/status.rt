@@ -1,4 +1,5 @@
-// How the program ends.
+//! How the program ends.
+
 ghost use Rattle.std.specs.Prelude.{◌≡◌};
 ghost use Rattle.link_program.specs.Outcome.{status_number};
 ghost use Rattle.std.specs.Process.{exit_status};

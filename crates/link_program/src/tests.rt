@@ -1,4 +1,5 @@
-// The program from its words to its last byte, with ample memory: what is written, and how it ends.
+//! The program from its words to its last byte, with ample memory: what is written, and how it ends.
+
 ghost use Rattle.std.specs.Prelude.{◌<◌};
 
 use crate::run::run;

@@ -1,4 +1,5 @@
-// The words of a command.
+//! The words of a command.
+
 ghost use Rattle.std.specs.Prelude.{◌≡◌, string_bytes};
 
 use std::marker::Model;

@@ -1,4 +1,5 @@
-// The text of a refusal.
+//! The text of a refusal.
+
 ghost use Rattle.std.specs.Prelude.{◌≡◌, ◌++◌, codes, IfOk, OnOk, string_bytes};
 ghost use Rattle.std.specs.List.{flat_map};
 ghost use Rattle.link_rules.specs.Report.{kind_text, origin_text, refusal_text, separated_lines};
@@ -36,7 +37,7 @@ pub fn refusal_text(alloc: Global, error: &LinkError) -> Result<Vec<u8>, AllocEr
     }
 }
 
-// Which text is no script, and why.
+/// Which text is no script, and why.
 fn script_text(
     alloc: Global,
     origin: ScriptOrigin,
@@ -51,7 +52,7 @@ fn script_text(
     Ok(text.into_bytes())
 }
 
-// That a section is listed twice as a member.
+/// That a section is listed twice as a member.
 fn two_groups_text(alloc: Global, file: &Name, section: u32) -> Result<Vec<u8>, AllocError>
     ensures { IfOk result (λ text. text.items ≡ refusal_text (SectionInTwoGroups file.now section)) }
 {
@@ -59,7 +60,7 @@ fn two_groups_text(alloc: Global, file: &Name, section: u32) -> Result<Vec<u8>, 
     Ok(text.into_bytes())
 }
 
-// That a version isn't declared.
+/// That a version isn't declared.
 fn version_text(alloc: Global, name: &Name, version: &Name) -> Result<Vec<u8>, AllocError>
     ensures { IfOk result (λ text. text.items ≡ refusal_text (UndefinedVersion name.now version.now)) }
 {
@@ -67,7 +68,7 @@ fn version_text(alloc: Global, name: &Name, version: &Name) -> Result<Vec<u8>, A
     Ok(text.into_bytes())
 }
 
-// Adds which text it is.
+/// Adds which text it is.
 fn write_origin(text: &mut String, origin: ScriptOrigin) -> Result<(), AllocError>
     ensures { OnOk result (string_bytes text.new ≡ string_bytes text.old ++ origin_text origin) }
 {
@@ -81,7 +82,7 @@ fn write_origin(text: &mut String, origin: ScriptOrigin) -> Result<(), AllocErro
     }
 }
 
-// What there are too many of.
+/// What there are too many of.
 fn kind_text<'a>(kind: TooManyKind) -> &'a str
     ensures { result.now ≡ kind_text kind }
 {
@@ -94,7 +95,7 @@ fn kind_text<'a>(kind: TooManyKind) -> &'a str
     }
 }
 
-// The lines of names that are defined twice, with a line feed between two.
+/// The lines of names that are defined twice, with a line feed between two.
 fn duplicates_text(alloc: Global, lines: &[Name]) -> Result<Vec<u8>, AllocError>
     ensures { IfOk result (λ text. text.items ≡ codes "Duplicate symbols detected: " ++ separated_lines lines.now) }
 {
@@ -106,7 +107,7 @@ fn duplicates_text(alloc: Global, lines: &[Name]) -> Result<Vec<u8>, AllocError>
     Ok(text)
 }
 
-// Adds further lines, each behind a line feed.
+/// Adds further lines, each behind a line feed.
 fn add_lines(text: &mut Vec<u8>, lines: &[Name]) -> Result<(), AllocError>
     ensures { OnOk result (text.new.items ≡ text.old.items ++ flat_map (λ line. codes "\n" ++ line) lines.now) }
 {

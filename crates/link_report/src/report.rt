@@ -1,4 +1,5 @@
-// The report of a link.
+//! The report of a link.
+
 ghost use Rattle.std.specs.Prelude.{◌≡◌, ◌++◌, IfOk, OnOk, codes, decimal, slice_index, string_bytes};
 ghost use Rattle.std.specs.List.{flat_map};
 ghost use Rattle.link_flags.specs.FlagText.{flags_text};
@@ -35,7 +36,7 @@ pub fn report_text(alloc: Global, linked: &Linked) -> Result<Vec<u8>, AllocError
     Ok(text.into_bytes())
 }
 
-// Adds the lines of the loaded objects.
+/// Adds the lines of the loaded objects.
 fn write_loaded_lines(text: &mut String, objects: &[LoadedObject]) -> Result<(), AllocError>
     ensures { OnOk result (string_bytes text.new ≡ string_bytes text.old ++ flat_map loaded_line objects.now) }
 {
@@ -45,14 +46,14 @@ fn write_loaded_lines(text: &mut String, objects: &[LoadedObject]) -> Result<(),
     Ok(())
 }
 
-// Adds the line of a loaded object.
+/// Adds the line of a loaded object.
 fn write_loaded_line(text: &mut String, object: &LoadedObject) -> Result<(), AllocError>
     ensures { OnOk result (string_bytes text.new ≡ string_bytes text.old ++ loaded_line object.now) }
 {
     writeln!(text, "loaded {} {}", object.object, object.name)
 }
 
-// Adds the lines of the groups that were kept.
+/// Adds the lines of the groups that were kept.
 fn write_kept_lines(text: &mut String, groups: &[KeptGroup]) -> Result<(), AllocError>
     ensures { OnOk result (string_bytes text.new ≡ string_bytes text.old ++ flat_map kept_line groups.now) }
 {
@@ -62,7 +63,7 @@ fn write_kept_lines(text: &mut String, groups: &[KeptGroup]) -> Result<(), Alloc
     Ok(())
 }
 
-// Adds the line of a group that was kept.
+/// Adds the line of a group that was kept.
 fn write_kept_line(text: &mut String, group: &KeptGroup) -> Result<(), AllocError>
     ensures { OnOk result (string_bytes text.new ≡ string_bytes text.old ++ kept_line group.now) }
 {
@@ -73,7 +74,7 @@ fn write_kept_line(text: &mut String, group: &KeptGroup) -> Result<(), AllocErro
     )
 }
 
-// Adds the lines of the symbols, of which the first has the id 0.
+/// Adds the lines of the symbols, of which the first has the id 0.
 fn write_symbol_lines(
     text: &mut String,
     names: &[Name],
@@ -88,14 +89,14 @@ fn write_symbol_lines(
     Ok(())
 }
 
-// What a symbol means: two steps through the table. A symbol that is not in the table means the undefined one.
+/// What a symbol means: two steps through the table. A symbol that is not in the table means the undefined one.
 fn definition(table: &[SymbolId], id: usize) -> SymbolId
     ensures { result ≡ two_steps table.now id }
 {
     entry(table, entry(table, id).as_usize())
 }
 
-// The symbol that a symbol points to.
+/// The symbol that a symbol points to.
 fn entry(table: &[SymbolId], id: usize) -> SymbolId
     ensures { result ≡ slice_index table.now id }
 {
@@ -105,7 +106,7 @@ fn entry(table: &[SymbolId], id: usize) -> SymbolId
     }
 }
 
-// The flags of a symbol; none where they are not given.
+/// The flags of a symbol; none where they are not given.
 fn flags_at(flags: &[ValueFlags], id: usize) -> ValueFlags
     ensures { result.0 ≡ flags_at flags.now id }
 {
@@ -115,7 +116,7 @@ fn flags_at(flags: &[ValueFlags], id: usize) -> ValueFlags
     }
 }
 
-// Adds the line of a symbol.
+/// Adds the line of a symbol.
 fn write_symbol_line(
     text: &mut String,
     id: usize,
@@ -130,7 +131,7 @@ fn write_symbol_line(
     writeln!(text, " -> {definition} [{flags}]")
 }
 
-// Adds the name of a symbol.
+/// Adds the name of a symbol.
 fn write_symbol_name(text: &mut String, name: &Name) -> Result<(), AllocError>
     ensures { OnOk result (string_bytes text.new ≡ string_bytes text.old ++ symbol_name name.now) }
 {
@@ -141,7 +142,7 @@ fn write_symbol_name(text: &mut String, name: &Name) -> Result<(), AllocError>
     }
 }
 
-// Adds the lines of the versions that were given.
+/// Adds the lines of the versions that were given.
 fn write_version_lines(text: &mut String, versions: &[GivenVersion]) -> Result<(), AllocError>
     ensures { OnOk result (string_bytes text.new ≡ string_bytes text.old ++ flat_map version_line versions.now) }
 {
@@ -151,14 +152,14 @@ fn write_version_lines(text: &mut String, versions: &[GivenVersion]) -> Result<(
     Ok(())
 }
 
-// Adds the line of a version that was given.
+/// Adds the line of a version that was given.
 fn write_version_line(text: &mut String, version: &GivenVersion) -> Result<(), AllocError>
     ensures { OnOk result (string_bytes text.new ≡ string_bytes text.old ++ version_line version.now) }
 {
     writeln!(text, "version {} {}", version.symbol, version.index)
 }
 
-// Adds the lines of the undefined names.
+/// Adds the lines of the undefined names.
 fn write_undefined_lines(text: &mut String, names: &[UndefinedName]) -> Result<(), AllocError>
     ensures { OnOk result (string_bytes text.new ≡ string_bytes text.old ++ flat_map undefined_line names.now) }
 {
@@ -168,7 +169,7 @@ fn write_undefined_lines(text: &mut String, names: &[UndefinedName]) -> Result<(
     Ok(())
 }
 
-// Adds the line of an undefined name.
+/// Adds the line of an undefined name.
 fn write_undefined_line(text: &mut String, undefined: &UndefinedName) -> Result<(), AllocError>
     ensures { OnOk result (string_bytes text.new ≡ string_bytes text.old ++ undefined_line undefined.now) }
 {
@@ -177,7 +178,7 @@ fn write_undefined_line(text: &mut String, undefined: &UndefinedName) -> Result<
     text.push_str("\n")
 }
 
-// Adds the version of a name, where it has one.
+/// Adds the version of a name, where it has one.
 fn write_version(text: &mut String, version: &Option<Name>) -> Result<(), AllocError>
     ensures { OnOk result (string_bytes text.new ≡ string_bytes text.old ++ version_text version.now) }
 {
@@ -187,7 +188,7 @@ fn write_version(text: &mut String, version: &Option<Name>) -> Result<(), AllocE
     }
 }
 
-// Adds the lines of the required names that nothing defines.
+/// Adds the lines of the required names that nothing defines.
 fn write_missing_lines(text: &mut String, names: &[Name]) -> Result<(), AllocError>
     ensures { OnOk result (string_bytes text.new ≡ string_bytes text.old ++ flat_map missing_line names.now) }
 {
@@ -197,7 +198,7 @@ fn write_missing_lines(text: &mut String, names: &[Name]) -> Result<(), AllocErr
     Ok(())
 }
 
-// Adds the line of a required name that nothing defines.
+/// Adds the line of a required name that nothing defines.
 fn write_missing_line(text: &mut String, name: &Name) -> Result<(), AllocError>
     ensures { OnOk result (string_bytes text.new ≡ string_bytes text.old ++ missing_line name.now) }
 {

@@ -1,4 +1,5 @@
-// That each call succeeds with ample memory, on one line of each kind. Which bytes they are is in the contracts.
+//! That each call succeeds with ample memory, on one line of each kind. Which bytes they are is in the contracts.
+
 use crate::{refusal_text, report_text};
 use bitflags::Flags;
 use link_flags::ValueFlags;

@@ -37,7 +37,7 @@ left_undefined l = filter (stays_undefined l) (enumerate_from 0 l.stage.symbols)
 abbrev pub asks_same : Symbol → Symbol → Bool
 asks_same u x = bytes_eq u.name x.name && same_version u.version x.version
 
--- the last that asks for the same
+-- the last that asks for the same: the records are walked from the greatest id down, so that the one met first stands for the others
 abbrev pub last_alike : List Numbered → Symbol → Option ℕ
 last_alike left x = option_map (λ p. p.0) (last_of (filter (λ p. asks_same p.1 x) left))
 
@@ -55,7 +55,7 @@ is_boundary w x = is_none x.version
 abbrev pub is_boundary_maker : Stage → List Numbered → Numbered → Bool
 is_boundary_maker w left u = is_boundary w u.1 && is_last_alike left u
 
--- the references for which new symbols are made, in the order of those: falling ids
+-- the references for which new symbols are made, in the order of those: falling ids, as the records are walked
 abbrev pub boundary_makers : Stage → List Numbered → List Numbered
 boundary_makers w left = reverse (filter (is_boundary_maker w left) left)
 

@@ -1,4 +1,5 @@
-// Laws about the definitions alone. Each is a function that does nothing: its contract is the law.
+//! Laws about the definitions alone. Each is a function that does nothing: its contract is the law.
+
 ghost use Rattle.std.specs.Prelude.{◌≡◌, List, [], ◌∷◌, Bool, true, false, Some, codes};
 ghost use Rattle.link_input.specs.ObjectFile.{ObjectFile};
 ghost use Rattle.link_rules.specs.declared.linked.Linked.{Linked};

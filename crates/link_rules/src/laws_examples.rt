@@ -1,4 +1,5 @@
-// Tiny worlds, which the checker computes: each tells a definition from one that is nearly the same.
+//! Tiny worlds, which the checker computes: each tells a definition from one that is nearly the same.
+
 ghost use Rattle.std.specs.Prelude.{◌≡◌, List, [], ◌∷◌, false, true, Some, None, codes, map};
 ghost use Rattle.std.specs.Int.RustNames.{bit_or};
 ghost use Rattle.link_flags.specs.FlagBits as flag;

@@ -1,4 +1,5 @@
-// What the words of today say of plain objects is what the whole rules say of them.
+//! What the words of today say of plain objects is what the whole rules say of them.
+
 ghost use Rattle.link_rules.specs.declared.linked.Linked.{Linked};
 ghost use Rattle.link_rules.specs.declared.refusal.LinkError.{LinkError};
 ghost use Rattle.link_rules.specs.Places.{Bytes};

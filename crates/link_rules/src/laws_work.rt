@@ -1,4 +1,5 @@
-// Laws about the work of a link.
+//! Laws about the work of a link.
+
 ghost use Rattle.std.specs.Prelude.{◌≡◌, ◌↔◌, ◌<◌, ◌≤◌, ◌∷◌, ◌++◌, ℕ, List, Bool, Contains, Some, length, slice_get, slice_index};
 ghost use Rattle.std.specs.List.{flat_map};
 ghost use Rattle.link_closure.specs.Closure.{IsLeastClosed, is_marked};

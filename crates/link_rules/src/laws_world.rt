@@ -1,4 +1,5 @@
-// Laws about the definitions of a whole link.
+//! Laws about the definitions of a whole link.
+
 ghost use Rattle.std.specs.Prelude.{◌≡◌, ◌↔◌, ◌⊎◌, ℕ, List, Bool, IsPermutation, IsTrue, None, Some, Option, Ok, slice_get};
 ghost use Rattle.std.specs.List.{list_any};
 ghost use Rattle.link_input.specs.declared.symbol_entry.SymbolEntry.{SymbolEntry};

@@ -1,4 +1,5 @@
-// What a link gives.
+//! What a link gives.
+
 use link_flags::ValueFlags;
 use link_ids::SymbolId;
 use link_names::{Name, Seq};

@@ -1,4 +1,5 @@
-// Why a link is refused.
+//! Why a link is refused.
+
 use link_input::TooManyKind;
 use link_names::{Name, Seq};
 use link_syntax::ScriptError;

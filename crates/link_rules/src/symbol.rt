@@ -1,4 +1,5 @@
-// A symbol of a link.
+//! A symbol of a link.
+
 use link_input::{Place, SymbolBinding};
 use link_names::Name;
 

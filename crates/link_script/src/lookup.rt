@@ -8,6 +8,7 @@ ghost use Rattle.link_script.specs.Lookup.{asked, seen, name_of, text_of};
 pub trait Demangler {
     ghost demangled: { Self → List ℕ → List ℕ };
 
+    /// The name as it reads demangled; a name that is not mangled stays as it is.
     fn demangle<'a>(&'a self, name: &'a str) -> &'a str
         ensures { result.now ≡ demangled self.now name.now };
 }

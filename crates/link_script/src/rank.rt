@@ -14,12 +14,14 @@ use crate::rules::{Class, MatchRules, Version};
 use crate::version_index::VersionIndex;
 use link_syntax::Side;
 
+/// Whether a pattern of the class outside blocks of C++ fits the name.
 pub fn plain_fits(rules: &MatchRules, class: Class, name: &Lookup) -> bool
     ensures { result ≡ plain_fits rules.now class (seen name.now) }
 {
     rules.general.fits(class, name, false)
 }
 
+/// Whether a pattern of the class in blocks of C++ fits the name, which is seen demangled.
 pub fn cxx_fits(rules: &MatchRules, class: Class, name: &Lookup) -> bool
     ensures { result ≡ cxx_fits rules.now class (seen name.now) }
 {
@@ -93,6 +95,7 @@ fn last_in(
     None
 }
 
+/// The strongest match, class by class: of exact matches the first version has it, of others the last.
 #[tactic(auto, unfolding(crate::specs::Rules::best_match))]
 fn best_match(versions: &[Version], index: &VersionIndex, name: &Lookup) -> Option<(usize, Side)>
     requires { IsIndexOf versions.now index.now }

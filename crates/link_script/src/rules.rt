@@ -61,6 +61,7 @@ pub struct Version {
     pub version_body: VersionBody,
 }
 
+/// Whether one of the globs fits the text.
 fn has_glob(globs: &[Pattern], text: &str) -> bool
     ensures { result ≡ has_glob globs.now (chars text.now) }
 {
@@ -72,6 +73,7 @@ fn has_glob(globs: &[Pattern], text: &str) -> bool
     false
 }
 
+/// Whether the name is one of these; no name is none of them.
 fn exact_fits(names: &NameSet, name: Option<&[u8]>) -> bool
     ensures { result ≡ exact_fits names.now (option_map (λ n. n.now) name.entry) }
 {
@@ -81,6 +83,7 @@ fn exact_fits(names: &NameSet, name: Option<&[u8]>) -> bool
     }
 }
 
+/// Whether one of the globs fits the text; what is no text fits none.
 fn glob_fits(globs: &[Pattern], text: Option<&str>) -> bool
     ensures { result ≡ glob_fits globs.now (option_map (λ t. t.now) text.entry) }
 {
@@ -113,6 +116,7 @@ fn is_of(class: Class, matcher: &SymbolMatcher) -> bool
     }
 }
 
+/// Whether the pattern is one name.
 fn is_exact(matcher: &SymbolMatcher) -> bool
     ensures { result ≡ is_of Class.Exact matcher.now }
 {

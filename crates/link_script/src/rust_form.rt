@@ -50,6 +50,7 @@ fn is_exact_name(entry: &ParsedSymbolMatcher) -> bool
     matches!(entry, ParsedSymbolMatcher::Single(SymbolMatcher::Exact(_)))
 }
 
+/// Whether a bare `*` is among the entries.
 fn hides_the_rest(entries: &[ParsedSymbolMatcher]) -> bool
     ensures { result ≡ list_any is_bare_star entries.now }
 {
@@ -61,6 +62,7 @@ fn hides_the_rest(entries: &[ParsedSymbolMatcher]) -> bool
     false
 }
 
+/// Whether each entry is one name.
 fn lists_names(entries: &[ParsedSymbolMatcher]) -> bool
     ensures { result ≡ list_all is_exact_name entries.now }
 {

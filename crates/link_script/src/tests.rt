@@ -1,5 +1,6 @@
-// Tests of what no contract says: long texts, and a demangler of another kind. Cases of texts and names stand in the program
-// `link_script_cases`.
+//! Tests of what no contract says: long texts, and a demangler of another kind. Cases of texts and names stand in the program
+//! `link_script_cases`.
+
 use super::*;
 use link_names::Name;
 use link_syntax::SymbolMatcher;

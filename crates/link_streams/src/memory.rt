@@ -1,5 +1,6 @@
-// Sources and sinks over bytes in memory. What becomes of each call is known, so that a caller can
-// be tried on every way in which bytes come and go.
+//! Sources and sinks over bytes in memory. What becomes of each call is known, so that a caller can
+//! be tried on every way in which bytes come and go.
+
 ghost use Rattle.std.specs.Prelude.{◌≡◌, ◌<◌, ◌≤◌, ◌++◌, ◌↔◌, [], length, take, drop, min, IsOk, IsErr, IfOk, OnOk, OnErr};
 ghost use Rattle.link_streams.specs.Memory.{IsToFail, HasRoom};
 ghost use Rattle.link_streams.specs.Streams.{raised, Rose};
@@ -199,7 +200,7 @@ impl MemorySink {
         &self.bytes
     }
 
-    // Counts a fault.
+    /// Counts a fault.
     fn fault(&mut self) -> Failed
         ensures { self.new ≡ record self.old { faults = raised self.old.faults } }
     {

@@ -1,7 +1,8 @@
-// Standard input and output as a source and a sink. As a source and a sink they tell no content:
-// what a file, a pipe or a terminal gave or took, no contract can say. Of a reader and a writer
-// that tell, it is proved that each call hands on just what theirs gave or took, and that no byte
-// is lost where an interrupted call is made again.
+//! Standard input and output as a source and a sink. As a source and a sink they tell no content:
+//! what a file, a pipe or a terminal gave or took, no contract can say. Of a reader and a writer
+//! that tell, it is proved that each call hands on just what theirs gave or took, and that no byte
+//! is lost where an interrupted call is made again.
+
 ghost use Rattle.std.specs.Prelude.{◌≡◌, ◌≢◌, ◌<◌, ◌≤◌, length, take, None, is_ok, if◌then◌else◌, IfOk, IfErr, OnOk, OnErr};
 ghost use Rattle.std.specs.IoError.{error_kind};
 ghost use Rattle.std.specs.Io.{ReadsAtMost, WritesAtMost};

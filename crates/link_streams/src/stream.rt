@@ -1,4 +1,5 @@
-// What a source and a sink are.
+//! What a source and a sink are.
+
 ghost use Rattle.std.specs.Prelude.{◌≡◌, ◌<◌, ◌≤◌, ℕ, List, length, take, Option, IfOk, OnOk, OnErr};
 ghost use Rattle.link_streams.specs.Streams.{Gives, IsAtEnd, Takes, Rose, IsCalledOnce};
 

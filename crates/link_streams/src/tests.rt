@@ -1,5 +1,6 @@
-// What no clause says: that each call succeeds with ample memory. The contracts do the rest; here
-// each way in which bytes come and go is run once.
+//! What no clause says: that each call succeeds with ample memory. The contracts do the rest; here
+//! each way in which bytes come and go is run once.
+
 use crate::{Failed, MemorySink, MemorySource, ReadAllError, SteadySource, read_all, write_all};
 use std::alloc::{AllocError, Global};
 use std::test::Fail;

@@ -1,4 +1,5 @@
-// All of a source, and all of a text.
+//! All of a source, and all of a text.
+
 ghost use Rattle.std.specs.Prelude.{◌≡◌, ◌+◌, ◌<◌, ◌≤◌, length, IfOk, OnOk, OnErr, IfSome, IsErrOf};
 ghost use Rattle.link_streams.specs.declared.whole.ReadAllError.TheVariants.{ReadFault, Memory};
 ghost use Rattle.link_streams.specs.Streams.{Gives, GivesPart, GivesAtMost, GivesCount, IsAtEnd, Takes, TakesPart, Rose, IsCalledAtMost};

@@ -1,4 +1,5 @@
-// Worlds whose answers the checker computes.
+//! Worlds whose answers the checker computes.
+
 ghost use Rattle.std.specs.Prelude.{◌≡◌, None, Some};
 ghost use Rattle.link_input.specs.declared.too_many.TooManyKind.TheVariants.{Objects};
 ghost use Rattle.link_rules.specs.Refusals.{counts_at};

@@ -1,4 +1,5 @@
-// What the adapters make of a reader and a writer that are interrupted, fail, or take nothing.
+//! What the adapters make of a reader and a writer that are interrupted, fail, or take nothing.
+
 ghost use Rattle.std.specs.Prelude.{◌≤◌, IfOk};
 
 use super::*;
