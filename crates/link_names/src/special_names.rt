@@ -5,7 +5,8 @@ ghost use Rattle.std.specs.Str.Parse.{ParsesUnsigned};
 ghost use Rattle.link_names.specs.SpecialNames.{is_mapping_name, base_of, numeral_of};
 
 /// The name marks where code or data begins (`$x`, `$d` and names that begin so: ELF for the Arm 64-bit Architecture,
-/// "Mapping symbols"), or is the assembler's label `L0` with a byte 1. Such symbols name nothing.
+/// "Mapping symbols"), or is the assembler's label of three bytes: the letter `L`, the digit zero and a byte of value one.
+/// Such symbols name nothing.
 pub fn is_mapping_symbol_name(name: &[u8]) -> bool
     ensures { result ≡ is_mapping_name name.now }
 {
