@@ -1,5 +1,7 @@
 //! What no clause says: that an answer comes where memory is ample.
 
+ghost use Rattle.std.specs.Prelude.{◌≤◌};
+
 use crate::link_symbols;
 use link_flags::Visibility;
 use link_input::{
@@ -7,7 +9,7 @@ use link_input::{
     SymbolBinding, SymbolEntry, SymbolKind, TableError,
 };
 use link_names::{Name, Seq};
-use link_rules::LinkError;
+use link_rules::{LinkError, Linked};
 use std::alloc::{AllocError, Global};
 use std::test::Fail;
 
@@ -71,59 +73,71 @@ fn two_objects(alloc: Global, first: Place, archive: bool) -> Result<Inputs<ElfL
     })
 }
 
-#[test]
-fn an_answer_and_each_refusal(rt: HostRuntime) -> Result<(), Fail> {
-    let alloc = rt.alloc();
-    let asked = two_objects(alloc, Place::Undefined, true)?;
-    let linked = link_symbols(alloc, asked, Options::new(alloc), 2);
-    assert!(rt;
-        matches!(&linked, Ok(linked) if linked.loaded.len() == 2 && linked.table.len() == 5)
-    );
-    let clash = two_objects(alloc, Place::Section(1), false)?;
-    let refused = link_symbols(alloc, clash, Options::new(alloc), 1);
-    assert!(rt; matches!(&refused, Err(LinkError::DuplicateSymbols(lines)) if lines.len() == 1));
-    let none: Inputs<ElfLike> = Inputs {
+/// No objects at all.
+fn no_objects(alloc: Global) -> Inputs<ElfLike> {
+    Inputs {
         objects: Seq::new(alloc),
         scripts: Seq::new(alloc),
         stubs: Seq::new(alloc),
-    };
+    }
+}
+
+/// How many objects are loaded and how many symbols there are, or the refusal.
+fn told(alloc: Global, inputs: Inputs<ElfLike>, workers: usize) -> Result<String, AllocError>
+    requires { (1 ≤ workers) × (workers ≤ 256) }
+{
+    match link_symbols(alloc, inputs, Options::new(alloc), workers) {
+        Ok(linked) => {
+            let (loaded, symbols) = (linked.loaded.len(), linked.table.len());
+            format!(in alloc; "{loaded} of {symbols}")
+        }
+        Err(LinkError::DuplicateSymbols(lines)) => {
+            let clashes = lines.len();
+            format!(in alloc; "{clashes} clash")
+        }
+        Err(LinkError::NoInputs) => String::from_str(alloc, "no inputs"),
+        Err(_) => String::from_str(alloc, "refused"),
+    }
+}
+
+#[test]
+fn an_answer_and_each_refusal(rt: HostRuntime) -> Result<(), Fail> {
+    let alloc = rt.alloc();
+    let asked = told(alloc, two_objects(alloc, Place::Undefined, true)?, 2)?;
+    let clash = told(alloc, two_objects(alloc, Place::Section(1), false)?, 1)?;
+    let none = told(alloc, no_objects(alloc), 256)?;
     assert!(rt;
-        matches!(
-            link_symbols(alloc, none, Options::new(alloc), 256),
-            Err(LinkError::NoInputs)
-        )
+        asked.as_str() == "2 of 5" && clash.as_str() == "1 clash" && none.as_str() == "no inputs"
     );
     Ok(())
+}
+
+/// What each symbol means, with its flags, and then the undefined symbols.
+fn table_text(alloc: Global, linked: &Linked) -> Result<String, AllocError> {
+    let mut text = String::new(alloc);
+    let meanings = linked.table.as_slice().iter();
+    for (meaning, flags) in meanings.zip(linked.flags.as_slice()) {
+        text.push_str(format!(in alloc; "{meaning} [{flags}]; ")?.as_str())?;
+    }
+    for undefined in linked.undefined.as_slice() {
+        let symbol = undefined.symbol;
+        text.push_str(format!(in alloc; "undefined {symbol}")?.as_str())?;
+    }
+    Ok(text)
 }
 
 #[test]
 fn the_last_of_equal_references_stands_for_them(rt: HostRuntime) -> Result<(), Fail> {
     let alloc = rt.alloc();
-    let mut objects = Seq::new(alloc);
+    let mut inputs = no_objects(alloc);
     let twice = [Place::Undefined, Place::Undefined];
-    objects.push(object(alloc, "m.o", false, &twice)?)?;
-    let inputs = Inputs {
-        objects,
-        scripts: Seq::new(alloc),
-        stubs: Seq::new(alloc),
-    };
+    inputs.objects.push(object(alloc, "m.o", false, &twice)?)?;
     let linked = link_symbols(alloc, inputs, Options::new(alloc), 2)
         .ok()
         .ok_or("a link")?;
-    let wanted = [
-        "0 [ABSOLUTE]",
-        "0 [ABSOLUTE | NON_INTERPOSABLE]",
-        "3 [ABSOLUTE]",
-        "3 [ABSOLUTE | NON_INTERPOSABLE]",
-    ];
-    assert_eq!(rt; linked.table.len(), wanted.len());
-    let meanings = linked.table.as_slice().iter();
-    for ((meaning, flags), want) in meanings.zip(linked.flags.as_slice()).zip(wanted) {
-        let got = format!(in alloc; "{meaning} [{flags}]")?;
-        assert_eq!(rt; got.as_str(), want);
-    }
-    let undefined = linked.undefined.as_slice();
-    assert_eq!(rt; undefined.len(), 1);
-    assert_eq!(rt; undefined[0].symbol.as_usize(), 3);
+    assert_eq!(rt;
+        table_text(alloc, &linked)?.as_str(),
+        "0 [ABSOLUTE]; 0 [ABSOLUTE | NON_INTERPOSABLE]; 3 [ABSOLUTE]; 3 [ABSOLUTE | NON_INTERPOSABLE]; undefined 3"
+    );
     Ok(())
 }

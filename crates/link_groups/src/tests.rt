@@ -140,52 +140,61 @@ fn file_texts<P: Platform>(alloc: Global, groups: &[Group<P>]) -> Result<String,
     Ok(text)
 }
 
+/// The groups of objects with so many symbols each, for a number of workers.
+fn cut_for(alloc: Global, symbols: &[usize], workers: usize) -> Result<String, Fail>
+    requires { (1 ≤ workers) × (workers ≤ 256) }
+{
+    let mut objects = Vec::new(alloc);
+    for count in symbols {
+        objects.push(object(alloc, b"a.o", *count, 2)?)?;
+    }
+    let options = Options::new(alloc);
+    let groups = grouped(alloc, &options, inputs_of(alloc, objects), workers)?;
+    texts(alloc, groups.as_slice())
+}
+
 #[test]
 fn symbols_end_a_group_for_many_workers(rt: HostRuntime) -> Result<(), Fail> {
     let alloc = rt.alloc();
-    for (workers, want) in [
-        (1, "<prelude>;num_objects: 3 num_symbols: 8;"),
-        (
-            2,
-            "<prelude>;num_objects: 1 num_symbols: 3;num_objects: 1 num_symbols: 1;num_objects: 1 num_symbols: 4;",
-        ),
-    ] {
-        let mut objects = Vec::new(alloc);
-        for symbols in [3, 1, 4] {
-            objects.push(object(alloc, b"a.o", symbols, 2)?)?;
-        }
-        let options = Options::new(alloc);
-        let groups = grouped(alloc, &options, inputs_of(alloc, objects), workers)?;
-        assert_eq!(rt; texts(alloc, groups.as_slice())?.as_str(), want);
-    }
+    let one = cut_for(alloc, &[3, 1, 4], 1)?;
+    let two = cut_for(alloc, &[3, 1, 4], 2)?;
+    assert!(rt;
+        one.as_str() == "<prelude>;num_objects: 3 num_symbols: 8;"
+            && two.as_str()
+                == "<prelude>;num_objects: 1 num_symbols: 3;num_objects: 1 num_symbols: 1;num_objects: 1 num_symbols: 4;"
+    );
     Ok(())
 }
+
+/// The number of groups of so many empty objects, for a number of workers.
+fn groups_of_files(alloc: Global, files: usize, workers: usize) -> Result<usize, Fail>
+    requires { (1 ≤ workers) × (workers ≤ 256) }
+{
+    let mut objects = Vec::new(alloc);
+    for _ in 0..files {
+        objects.push(object(alloc, b"a.o", 0, 0)?)?;
+    }
+    let options = Options::new(alloc);
+    let groups = grouped(alloc, &options, inputs_of(alloc, objects), workers)?;
+    Ok(groups.len())
+}
+
+/// How many files there are, and how many groups of them, with the prelude's.
+const FILES: &[(usize, usize)] = &[(0, 1), (1, 2), (256, 2), (257, 3)];
 
 #[test]
 fn a_group_has_at_most_256_files(rt: HostRuntime) -> Result<(), Fail> {
     let alloc = rt.alloc();
-    for (count, want) in [(0, 1), (1, 2), (256, 2), (257, 3)] {
-        for workers in [1, 2, 256] {
-            let mut objects = Vec::new(alloc);
-            for _ in 0..count {
-                objects.push(object(alloc, b"a.o", 0, 0)?)?;
-            }
-            let options = Options::new(alloc);
-            let groups = grouped(alloc, &options, inputs_of(alloc, objects), workers)?;
-            assert_eq!(rt; groups.len(), want);
-        }
+    for &(files, want) in FILES {
+        let one = groups_of_files(alloc, files, 1)?;
+        let most = groups_of_files(alloc, files, 256)?;
+        assert!(rt; one == want && most == want, "{files} files");
     }
     Ok(())
 }
 
-#[test]
-fn groups_and_files_are_shown(rt: HostRuntime) -> Result<(), Fail> {
-    let alloc = rt.alloc();
-    let mut objects = Vec::new(alloc);
-    objects.push(object(alloc, b"a.o", 2, 0)?)?;
-    let mut inputs = inputs_of(alloc, objects);
-    inputs.scripts.push(script(alloc)?)?;
-    inputs.stubs.push(stub(alloc)?)?;
+/// Options that give the prelude a forced name and a redirected one.
+fn options_with_names(alloc: Global) -> Result<Options, Fail> {
     let mut options = Options::new(alloc);
     options
         .force_undefined
@@ -201,38 +210,62 @@ fn groups_and_files_are_shown(rt: HostRuntime) -> Result<(), Fail> {
         SymbolPlacement::Redirect(redirect),
         Name::from_slice(alloc, b"opened")?,
     ))?;
+    Ok(options)
+}
+
+/// Groups of every kind: the prelude, an object, a linker script, a stub library, and synthetic symbols behind them.
+fn groups_of_every_kind(alloc: Global) -> Result<Vec<Group<MachLike>>, Fail> {
+    let mut objects = Vec::new(alloc);
+    objects.push(object(alloc, b"a.o", 2, 0)?)?;
+    let mut inputs = inputs_of(alloc, objects);
+    inputs.scripts.push(script(alloc)?)?;
+    inputs.stubs.push(stub(alloc)?)?;
+    let options = options_with_names(alloc)?;
     let mut groups = grouped(alloc, &options, inputs, 1)?;
     groups.push(Group::SyntheticSymbols(SyntheticSymbols {
         file_id: FileId::new(4, 0),
         symbol_id_range: SymbolIdRange::empty(),
     }))?;
-    assert_eq!(rt;
-        texts(alloc, groups.as_slice())?.as_str(),
-        "<prelude>;num_objects: 1 num_symbols: 2;1 linker script(s);1 Mach-O stub library(s);<epilogue>;"
-    );
-    assert_eq!(rt;
-        file_texts(alloc, groups.as_slice())?.as_str(),
-        "<prelude>;a.o;x.ld;libS.tbd;<epilogue>;"
+    Ok(groups)
+}
+
+#[test]
+fn groups_and_files_are_shown(rt: HostRuntime) -> Result<(), Fail> {
+    let alloc = rt.alloc();
+    let groups = groups_of_every_kind(alloc)?;
+    let shown = texts(alloc, groups.as_slice())?;
+    let files = file_texts(alloc, groups.as_slice())?;
+    assert!(rt;
+        shown.as_str()
+            == "<prelude>;num_objects: 1 num_symbols: 2;1 linker script(s);1 Mach-O stub library(s);<epilogue>;"
+            && files.as_str() == "<prelude>;a.o;x.ld;libS.tbd;<epilogue>;"
     );
     Ok(())
 }
 
-#[test]
-fn linker_scripts_past_256_are_refused(rt: HostRuntime) -> Result<(), Fail> {
-    let alloc = rt.alloc();
+/// Inputs of so many linker scripts alone.
+fn scripts_alone(alloc: Global, count: usize) -> Result<Inputs<MachLike>, Fail> {
     let mut inputs = inputs_of(alloc, Vec::new(alloc));
-    for _ in 0..257 {
+    for _ in 0..count {
         inputs.scripts.push(script(alloc)?)?;
     }
+    Ok(inputs)
+}
+
+/// The refusal of one linker script more than there may be.
+const TOO_MANY: Option<GroupsError> = Some(GroupsError::TooMany {
+    kind: TooManyKind::LinkerScripts,
+    count: 257,
+});
+
+#[test]
+fn limits_count_both_batches(rt: HostRuntime) -> Result<(), Fail> {
+    let alloc = rt.alloc();
     let options = Options::new(alloc);
-    let refusal = grouped(alloc, &options, inputs, 1).err();
-    assert_eq!(rt;
-        refusal,
-        Some(GroupsError::TooMany {
-            kind: TooManyKind::LinkerScripts,
-            count: 257,
-        })
-    );
+    let at_once = grouped(alloc, &options, scripts_alone(alloc, 257)?, 1).err();
+    let (first, second) = (scripts_alone(alloc, 200)?, scripts_alone(alloc, 57)?);
+    let apart = grouped_twice(alloc, &options, first, second).err();
+    assert!(rt; at_once == TOO_MANY && apart == TOO_MANY);
     Ok(())
 }
 
@@ -251,9 +284,8 @@ fn first_ids(group: &Group<MachLike>) -> Option<(usize, usize, usize)> {
     ))
 }
 
-#[test]
-fn ids_run_on_in_a_second_batch(rt: HostRuntime) -> Result<(), Fail> {
-    let alloc = rt.alloc();
+/// An object and a linker script, and then an object and a stub library.
+fn two_batches(alloc: Global) -> Result<(Inputs<MachLike>, Inputs<MachLike>), Fail> {
     let mut objects = Vec::new(alloc);
     objects.push(object(alloc, b"a.o", 2, 3)?)?;
     let mut first = inputs_of(alloc, objects);
@@ -262,43 +294,25 @@ fn ids_run_on_in_a_second_batch(rt: HostRuntime) -> Result<(), Fail> {
     objects.push(object(alloc, b"b.o", 4, 1)?)?;
     let mut second = inputs_of(alloc, objects);
     second.stubs.push(stub(alloc)?)?;
+    Ok((first, second))
+}
+
+#[test]
+fn ids_run_on_in_a_second_batch(rt: HostRuntime) -> Result<(), Fail> {
+    let alloc = rt.alloc();
+    let (first, second) = two_batches(alloc)?;
     let options = Options::new(alloc);
     let (groups, more) = grouped_twice(alloc, &options, first, second)?;
-    assert_eq!(rt;
-        texts(alloc, groups.as_slice())?.as_str(),
-        "<prelude>;num_objects: 1 num_symbols: 2;1 linker script(s);"
-    );
-    assert_eq!(rt;
-        texts(alloc, more.as_slice())?.as_str(),
-        "num_objects: 1 num_symbols: 4;1 Mach-O stub library(s);"
-    );
+    let before = texts(alloc, groups.as_slice())?;
+    let after = texts(alloc, more.as_slice())?;
     let ids = match more.as_slice().first() {
         None => None,
         Some(group) => first_ids(group),
     };
-    assert_eq!(rt; ids, Some((3, 4, 3)));
-    Ok(())
-}
-
-#[test]
-fn limits_count_both_batches(rt: HostRuntime) -> Result<(), Fail> {
-    let alloc = rt.alloc();
-    let mut first = inputs_of(alloc, Vec::new(alloc));
-    for _ in 0..200 {
-        first.scripts.push(script(alloc)?)?;
-    }
-    let mut second = inputs_of(alloc, Vec::new(alloc));
-    for _ in 0..57 {
-        second.scripts.push(script(alloc)?)?;
-    }
-    let options = Options::new(alloc);
-    let refusal = grouped_twice(alloc, &options, first, second).err();
-    assert_eq!(rt;
-        refusal,
-        Some(GroupsError::TooMany {
-            kind: TooManyKind::LinkerScripts,
-            count: 257,
-        })
+    assert!(rt;
+        before.as_str() == "<prelude>;num_objects: 1 num_symbols: 2;1 linker script(s);"
+            && after.as_str() == "num_objects: 1 num_symbols: 4;1 Mach-O stub library(s);"
+            && ids == Some((3, 4, 3))
     );
     Ok(())
 }

@@ -3,51 +3,47 @@
 use crate::{ElfLike, MachLike, Platform};
 use link_script::{ExportList, Plain};
 use link_syntax::ScriptFault;
-use std::alloc::Global;
+use std::alloc::{AllocError, Global};
 use std::test::Fail;
 
-/// The list that a text spells on a platform.
-fn list_of<P: Platform>(alloc: Global, text: &[u8]) -> Result<ExportList, Fail> {
-    Ok(P::parse_export_list(alloc, text).ok().ok_or("a list")?)
+/// Which of three names a list has, and how many it requires.
+fn list_text(alloc: Global, list: &ExportList) -> Result<String, AllocError> {
+    let plain = list.contains(b"_foo", &Plain);
+    let glob = list.contains(b"_bar", &Plain);
+    let other = list.contains(b"_open", &Plain);
+    let required = list.required_symbols().len();
+    format!(in alloc; "{plain} {glob} {other}, {required} required")
 }
 
 /// What is said of a text on a platform.
-fn told<P: Platform>(alloc: Global, text: &[u8]) -> Result<String, Fail> {
+fn told<P: Platform>(alloc: Global, text: &[u8]) -> Result<String, AllocError> {
     match P::parse_export_list(alloc, text) {
-        Ok(_) => Ok(format!(in alloc; "read")?),
-        Err(ScriptFault::Memory) => Ok(format!(in alloc; "memory")?),
-        Err(ScriptFault::Text(error)) => Ok(format!(in alloc; "{error}")?),
+        Ok(list) => list_text(alloc, &list),
+        Err(ScriptFault::Memory) => String::from_str(alloc, "memory"),
+        Err(ScriptFault::Text(error)) => format!(in alloc; "{error}"),
     }
 }
 
-#[test]
-fn elf_lists_are_entries_in_braces(rt: HostRuntime) -> Result<(), Fail> {
-    let alloc = rt.alloc();
-    let list = list_of::<ElfLike>(alloc, b"{ foo; b*; };")?;
-    assert!(rt; list.contains(b"foo", &Plain));
-    assert!(rt; list.contains(b"bar", &Plain));
-    assert!(rt; !list.contains(b"open", &Plain));
-    assert!(rt; list.required_symbols().is_empty());
-    assert_eq!(rt;
-        told::<ElfLike>(alloc, b"foo\n")?.as_str(),
-        "Syntax error at 0"
-    );
-    Ok(())
-}
+/// Entries in braces.
+const OF_ELF: &[(&[u8], &str)] = &[
+    (b"{ _foo; _b*; };", "true true false, 0 required"),
+    (b"_foo\n", "Syntax error at 0"),
+];
+
+/// Lines.
+const OF_MACH: &[(&[u8], &str)] = &[
+    (b"_foo\n_b* # globs\n", "true true false, 1 required"),
+    (b"_a\n[b\n", "Invalid glob pattern at 3"),
+];
 
 #[test]
-fn mach_lists_are_lines(rt: HostRuntime) -> Result<(), Fail> {
+fn each_platform_has_its_lists(rt: HostRuntime) -> Result<(), Fail> {
     let alloc = rt.alloc();
-    let list = list_of::<MachLike>(alloc, b"_foo\n_b* # globs\n")?;
-    assert!(rt; list.contains(b"_foo", &Plain));
-    assert!(rt; list.contains(b"_bar", &Plain));
-    assert!(rt; !list.contains(b"_open", &Plain));
-    let required = list.required_symbols();
-    assert_eq!(rt; required.len(), 1);
-    assert!(rt; required[0].is(b"_foo"));
-    assert_eq!(rt;
-        told::<MachLike>(alloc, b"_a\n[b\n")?.as_str(),
-        "Invalid glob pattern at 3"
-    );
+    for &(text, want) in OF_ELF {
+        assert_eq!(rt; told::<ElfLike>(alloc, text)?.as_str(), want);
+    }
+    for &(text, want) in OF_MACH {
+        assert_eq!(rt; told::<MachLike>(alloc, text)?.as_str(), want);
+    }
     Ok(())
 }

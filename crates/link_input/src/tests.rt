@@ -11,15 +11,11 @@ use std::test::Fail;
 #[test]
 fn missing_symbols_are_named(rt: HostRuntime) -> Result<(), Fail> {
     let name = Name::from_slice(rt.alloc(), b"x")?;
-    let text = RedirectKind::DefSym.missing_target(rt.alloc(), &name)?;
-    assert_eq!(rt;
-        text.as_str(),
-        "Symbol 'x' referenced by --defsym does not exist"
-    );
-    let text = RedirectKind::Provide.missing_resolution(rt.alloc(), &name)?;
-    assert_eq!(rt;
-        text.as_str(),
-        "Symbol 'x' referenced by linker script has no resolution."
+    let target = RedirectKind::DefSym.missing_target(rt.alloc(), &name)?;
+    let resolution = RedirectKind::Provide.missing_resolution(rt.alloc(), &name)?;
+    assert!(rt;
+        target.as_str() == "Symbol 'x' referenced by --defsym does not exist"
+            && resolution.as_str() == "Symbol 'x' referenced by linker script has no resolution."
     );
     Ok(())
 }
@@ -32,7 +28,23 @@ fn redirect(alloc: Global, kind: RedirectKind, loc: SymbolLoc) -> Result<Redirec
     Ok(Redirect { kind, targets, loc })
 }
 
-/// A definition at each kind of place, and redirects of each kind and to each kind of place.
+/// Redirects of each kind, and to each kind of place.
+const REDIRECTS: &[(RedirectKind, SymbolLoc)] = &[
+    (RedirectKind::DefSym, SymbolLoc::None),
+    (RedirectKind::Script, SymbolLoc::FirstSection),
+    (RedirectKind::Script, SymbolLoc::SectionStartRelative(5)),
+    (RedirectKind::Script, SymbolLoc::SectionEndRelative(6)),
+    (RedirectKind::Provide, SymbolLoc::SectionEnd(7)),
+    (
+        RedirectKind::Provide,
+        SymbolLoc::LocationCounter(LocationCounter {
+            counter: 9,
+            section: Some(3),
+        }),
+    ),
+];
+
+/// A definition at each kind of place, and the redirects.
 fn placements(alloc: Global) -> Result<Vec<SymbolPlacement>, AllocError> {
     let mut placements = vec![in alloc;
         SymbolPlacement::Undefined,
@@ -44,41 +56,30 @@ fn placements(alloc: Global) -> Result<Vec<SymbolPlacement>, AllocError> {
         SymbolPlacement::LoadBaseAddress,
         SymbolPlacement::PlatformSpecific,
     ]?;
-    for (kind, loc) in [
-        (RedirectKind::DefSym, SymbolLoc::None),
-        (RedirectKind::Script, SymbolLoc::FirstSection),
-        (RedirectKind::Script, SymbolLoc::SectionStartRelative(5)),
-        (RedirectKind::Script, SymbolLoc::SectionEndRelative(6)),
-        (RedirectKind::Provide, SymbolLoc::SectionEnd(7)),
-        (
-            RedirectKind::Provide,
-            SymbolLoc::LocationCounter(LocationCounter {
-                counter: 9,
-                section: Some(3),
-            }),
-        ),
-    ] {
+    for &(kind, loc) in REDIRECTS {
         placements.push(SymbolPlacement::Redirect(redirect(alloc, kind, loc)?))?;
     }
     Ok(placements)
+}
+
+/// Whether a definition at a placement is copied as it is.
+fn is_copied(alloc: Global, placement: &SymbolPlacement, hidden: bool) -> Result<bool, AllocError> {
+    let definition = InternalSymDefInfo {
+        placement: placement.try_clone(alloc)?,
+        name: Name::from_slice(alloc, b"foo")?,
+        hidden,
+    };
+    let copy = definition.try_clone(alloc)?;
+    let want = format!(in alloc; "{placement:?}")?;
+    let got = format!(in alloc; "{:?}", copy.placement)?;
+    Ok(got.as_str() == want.as_str() && copy.name.is(b"foo") && copy.hidden == hidden)
 }
 
 #[test]
 fn each_placement_is_copied(rt: HostRuntime) -> Result<(), Fail> {
     let alloc = rt.alloc();
     for placement in &placements(alloc)? {
-        let want = format!(in alloc; "{placement:?}")?;
-        for hidden in [false, true] {
-            let definition = InternalSymDefInfo {
-                placement: placement.try_clone(alloc)?,
-                name: Name::from_slice(alloc, b"foo")?,
-                hidden,
-            };
-            let copy = definition.try_clone(alloc)?;
-            let got = format!(in alloc; "{:?}", copy.placement)?;
-            assert_eq!(rt; got.as_str(), want.as_str());
-            assert!(rt; copy.name.is(b"foo") && copy.hidden == hidden);
-        }
+        assert!(rt; is_copied(alloc, placement, false)? && is_copied(alloc, placement, true)?);
     }
     Ok(())
 }

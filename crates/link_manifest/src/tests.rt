@@ -2,7 +2,7 @@
 //! is meant. Each row has a manifest and the text of its fault, or `read` where it has none.
 
 use crate::{Manifest, ManifestError, manifest_of};
-use link_input::{ElfLike, Place, SymbolBinding, World};
+use link_input::{ElfLike, ParsedInputObject, World};
 use std::alloc::{AllocError, Global};
 use std::test::Fail;
 
@@ -174,20 +174,26 @@ fn nested(alloc: Global, depth: usize) -> Result<String, AllocError> {
     format!(in alloc; "{{\"objects\":{open}{close}}}")
 }
 
+/// A byte order mark, and bytes that are no UTF-8.
+const NO_JSON: &[&[u8]] = &[
+    b"\xef\xbb\xbf{}",
+    b"{\"objects\":[{\"name\":\"\xff\"}]}",
+];
+
+/// How deep lists are nested in the root's object, which is one level itself, and what is said of them.
+const DEPTHS: &[(usize, &str)] = &[(126, "objects[0]: expected object"), (127, "not JSON")];
+
 #[test]
 fn bytes_that_are_no_json_are_refused(rt: HostRuntime) -> Result<(), Fail> {
     let alloc = rt.alloc();
-    // A byte order mark, and bytes that are no UTF-8.
-    assert_eq!(rt; answer(alloc, b"\xef\xbb\xbf{}")?.as_str(), "not JSON");
-    assert_eq!(rt;
-        answer(alloc, b"{\"objects\":[{\"name\":\"\xff\"}]}")?.as_str(),
-        "not JSON"
-    );
-    // The root's object is one level of nesting.
-    let deep = answer(alloc, nested(alloc, 126)?.as_bytes())?;
-    assert_eq!(rt; deep.as_str(), "objects[0]: expected object");
-    let too_deep = answer(alloc, nested(alloc, 127)?.as_bytes())?;
-    assert_eq!(rt; too_deep.as_str(), "not JSON");
+    for bytes in NO_JSON {
+        let got = answer(alloc, bytes)?;
+        assert_eq!(rt; got.as_str(), "not JSON");
+    }
+    for &(depth, want) in DEPTHS {
+        let got = answer(alloc, nested(alloc, depth)?.as_bytes())?;
+        assert_eq!(rt; got.as_str(), want);
+    }
     Ok(())
 }
 
@@ -199,69 +205,57 @@ fn elf_world(manifest: Manifest) -> Option<World<ElfLike>> {
     }
 }
 
-#[test]
-fn objects_are_read_in_order(rt: HostRuntime) -> Result<(), Fail> {
-    let alloc = rt.alloc();
-    let bytes = br#"{"objects":[{"name":"main.o"},{"name":"lib.o","archive":true},
-        {"name":"all.o","archive":true,"whole_archive":true}],"files_per_group":7}"#;
-    let world = elf_world(manifest_of(alloc, bytes)?).ok_or("no ELF")?;
-    assert_eq!(rt; world.options.files_per_group, 7);
-    assert!(rt; world.scripts.version_script.is_none() && world.scripts.export_list.is_none());
-    assert!(rt; world.inputs.scripts.is_empty() && world.inputs.stubs.is_empty());
-    let wanted = [
-        ("main.o", false, false),
-        ("lib.o", true, false),
-        ("all.o", true, true),
-    ];
-    assert_eq!(rt; world.inputs.objects.len(), wanted.len());
-    for (object, (name, archive, whole)) in world.inputs.objects.as_slice().iter().zip(wanted) {
-        assert!(rt; object.input().is(name.as_bytes()), "{name}");
-        assert_eq!(rt; object.modifiers().archive, archive, "{name}");
-        assert_eq!(rt; object.modifiers().whole_archive, whole, "{name}");
-        assert!(rt;
-            !object.modifiers().as_needed && !object.is_dynamic(),
-            "{name}"
-        );
-        assert_eq!(rt; object.num_symbols(), 1, "{name}");
+/// An object in words: its file, whether it is of an archive and of a whole one, and its symbols.
+fn object_text(
+    alloc: Global,
+    object: &ParsedInputObject<ElfLike>,
+) -> Result<String, AllocError> {
+    let file = object.input();
+    let modifiers = object.modifiers();
+    let (archive, whole) = (modifiers.archive, modifiers.whole_archive);
+    let sections = object.object().num_sections();
+    let mut text = format!(in alloc; "{file} {archive} {whole} {sections}:")?;
+    for symbol in object.object().symbols() {
+        let name = &symbol.name;
+        let (binding, place) = (symbol.binding, symbol.place);
+        text.push_str(format!(in alloc; " {name} {binding:?} {place:?},")?.as_str())?;
     }
-    Ok(())
+    Ok(text)
 }
 
-#[test]
-fn a_table_is_read(rt: HostRuntime) -> Result<(), Fail> {
-    let alloc = rt.alloc();
-    let bytes = br#"{"objects":[{"name":"main.o","sections":2,"symbols":[{"name":"main","place":1},
-        {"name":"\u00e9t\u00e9","place":"undefined"},{"name":{"hex":"FF0aaF"},"place":0}]}]}"#;
-    let world = elf_world(manifest_of(alloc, bytes)?).ok_or("no ELF")?;
-    let objects = world.inputs.objects.as_slice();
-    assert_eq!(rt; objects.len(), 1);
-    let table = objects[0].object().table();
-    assert!(rt; table.lib_name.is(b"main.o"));
-    assert_eq!(rt; table.sections, 2);
-    let wanted = [
-        (b"".as_slice(), SymbolBinding::Local, Place::Undefined),
-        (b"main".as_slice(), SymbolBinding::Global, Place::Section(1)),
-        ("été".as_bytes(), SymbolBinding::Global, Place::Undefined),
-        (
-            b"\xff\x0a\xaf".as_slice(),
-            SymbolBinding::Global,
-            Place::Section(0),
-        ),
-    ];
-    assert_eq!(rt; table.symbols.len(), wanted.len());
-    for (symbol, (name, binding, place)) in table.symbols.as_slice().iter().zip(wanted) {
-        assert!(rt; symbol.name.is(name), "{name:?}");
-        assert_eq!(rt; symbol.binding, binding, "{name:?}");
-        assert_eq!(rt; symbol.place, place, "{name:?}");
+/// The limit of a group and the objects of a manifest, in words.
+fn world_text(alloc: Global, manifest: &str) -> Result<String, Fail> {
+    let world = elf_world(manifest_of(alloc, manifest.as_bytes())?).ok_or("no ELF")?;
+    let files = world.options.files_per_group;
+    let mut text = format!(in alloc; "{files};")?;
+    for object in world.inputs.objects.as_slice() {
+        text.push_str(object_text(alloc, object)?.as_str())?;
+        text.push_str(";")?;
     }
-    Ok(())
+    Ok(text)
 }
 
+/// Manifests, and what is read of them.
+const WORLDS: &[(&str, &str)] = &[
+    ("{}", "256;"),
+    (
+        r#"{"objects":[{"name":"main.o"},{"name":"lib.o","archive":true},
+            {"name":"all.o","archive":true,"whole_archive":true}],"files_per_group":7}"#,
+        "7;main.o false false 0:  Local Undefined,;lib.o true false 0:  Local Undefined,;all.o true true 0:  Local Undefined,;",
+    ),
+    (
+        r#"{"objects":[{"name":"a.o","sections":2,"symbols":[{"name":"main","place":1},
+            {"name":"\u00e9t\u00e9","place":"undefined"},{"name":{"hex":"FF0aaF"},"place":0}]}]}"#,
+        "256;a.o false false 2:  Local Undefined, main Global Section(1), été Global Undefined, INVALID UTF-8([255, 10, 175]) Global Section(0),;",
+    ),
+];
+
 #[test]
-fn what_is_left_out_has_its_default(rt: HostRuntime) -> Result<(), Fail> {
+fn what_is_described_is_read(rt: HostRuntime) -> Result<(), Fail> {
     let alloc = rt.alloc();
-    let world = elf_world(manifest_of(alloc, b"{}")?).ok_or("no ELF")?;
-    assert_eq!(rt; world.options.files_per_group, 256);
-    assert!(rt; world.inputs.objects.is_empty());
+    for &(manifest, want) in WORLDS {
+        let got = world_text(alloc, manifest)?;
+        assert_eq!(rt; got.as_str(), want);
+    }
     Ok(())
 }

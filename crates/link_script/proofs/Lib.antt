@@ -10,3 +10,4 @@ pub mod RustForm
 pub mod Declared
 pub mod Listing
 pub mod Answered
+pub mod Refused

@@ -1,6 +1,10 @@
 //! Export lists: which symbols a shared object shows, and which ones must be there.
 
-ghost use Rattle.std.specs.Prelude.{◌≡◌, ◌↔◌, [], IsTrue, IfOk, IfErr, OnOk, OnErr};
+ghost use Rattle.std.specs.Prelude.{◌≡◌, ◌↔◌, [], ℕ, List, IsTrue, IfOk, IfErr, OnOk, OnErr};
+ghost use Rattle.link_syntax.specs.declared.fault.ScriptErrorKind.{ScriptErrorKind};
+ghost use Rattle.link_syntax.specs.Faults.{IsFaultOf, IsRefusedWith};
+ghost use Rattle.link_syntax.specs.ListFaults.{ListFails, AddedFails};
+ghost use Rattle.link_syntax.specs.MachoGrammar.{MachoFails};
 ghost use Rattle.link_script.specs.ExportRules.{class_fits, some_fits};
 ghost use Rattle.link_syntax.specs.Fault.{Refuses};
 ghost use Rattle.link_syntax.specs.ForcedName.{added_entry};
@@ -75,10 +79,8 @@ impl ExportList {
         }
     }
 
-    /// The list that the text of GNU ld's `--dynamic-list` spells. It requires no names.
-    ///
-    /// A text that is no such list is refused with its first fault and that fault's place.
-    pub fn parse_gnu(alloc: Global, text: &[u8]) -> Result<ExportList, ScriptFault>
+    /// The list of a GNU text, by what reading gives alone.
+    fn read_gnu(alloc: Global, text: &[u8]) -> Result<ExportList, ScriptFault>
         ensures read { IfOk result (λ list. IsGnuList text.now list) }
         ensures refused { IfErr result (λ e. Refuses e text.now (gnu_list text.now)) }
     {
@@ -92,11 +94,21 @@ impl ExportList {
         })
     }
 
-    /// The list that a text of names and globs spells, one on each line, as Mach-O linkers read it. The names are
-    /// required, the globs are not.
+    /// The list that the text of GNU ld's `--dynamic-list` spells. It requires no names.
     ///
-    /// A glob that can't be compiled is refused at its first byte.
-    pub fn parse_macho(alloc: Global, text: &[u8]) -> Result<ExportList, ScriptFault>
+    /// A text that is no such list is refused with its first fault and that fault's place.
+    pub fn parse_gnu(alloc: Global, text: &[u8]) -> Result<ExportList, ScriptFault>
+        ensures read { IfOk result (λ list. IsGnuList text.now list) }
+        ensures refused { IfErr result (λ e. Refuses e text.now (gnu_list text.now)) }
+        // By the grammar: what is refused is a fault of the text, at its place, and a text that has one is refused with it.
+        ensures faulty { IfErr result (λ e. IsFaultOf (ListFails text.now) text.now e) }
+        ensures refuses { (kind : ScriptErrorKind) (at : List ℕ) → ListFails text.now kind at → IsRefusedWith kind at text.now result }
+    {
+        ExportList::read_gnu(alloc, text)
+    }
+
+    /// The list of a Mach-O text, by what reading gives alone.
+    fn read_macho(alloc: Global, text: &[u8]) -> Result<ExportList, ScriptFault>
         ensures read { IfOk result (λ list. IsMachoList text.now list) }
         ensures refused { IfErr result (λ e. Refuses e text.now (macho_list text.now)) }
     {
@@ -111,6 +123,20 @@ impl ExportList {
         })
     }
 
+    /// The list that a text of names and globs spells, one on each line, as Mach-O linkers read it. The names are
+    /// required, the globs are not.
+    ///
+    /// A glob that can't be compiled is refused at its first byte.
+    pub fn parse_macho(alloc: Global, text: &[u8]) -> Result<ExportList, ScriptFault>
+        ensures read { IfOk result (λ list. IsMachoList text.now list) }
+        ensures refused { IfErr result (λ e. Refuses e text.now (macho_list text.now)) }
+        // By the grammar: what is refused is a fault of the text, at its place, and a text that has one is refused with it.
+        ensures faulty { IfErr result (λ e. IsFaultOf (MachoFails text.now) text.now e) }
+        ensures refuses { (kind : ScriptErrorKind) (at : List ℕ) → MachoFails text.now kind at → IsRefusedWith kind at text.now result }
+    {
+        ExportList::read_macho(alloc, text)
+    }
+
     /// Whether the list has the name: as it stands, by a glob, or by a bare star, plain or, demangled, of C++.
     pub fn contains<D: Demangler>(&self, name: &[u8], demangler: &D) -> bool
         ensures { IsTrue result ↔ IsListed self.now (asked (D.demangled demangler.now) name.now) }
@@ -122,6 +148,18 @@ impl ExportList {
     /// where `without_semicolon` says so, up to a `}` or the text's end. What follows the entry is not read. No name is
     /// required by it. A refused call leaves the list as it was.
     pub fn add_symbol(&mut self, text: &[u8], without_semicolon: bool) -> Result<(), ScriptFault>
+        ensures added { OnOk result (AddsText without_semicolon text.now self.old self.new) }
+        ensures refused { IfErr result (λ e. Refuses e text.now (added_entry without_semicolon text.now)) }
+        // By the grammar: what is refused is a fault of the text, at its place, and a text that has one is refused with it.
+        ensures faulty { IfErr result (λ e. IsFaultOf (AddedFails without_semicolon text.now) text.now e) }
+        ensures refuses { (kind : ScriptErrorKind) (at : List ℕ) → AddedFails without_semicolon text.now kind at → IsRefusedWith kind at text.now result }
+        ensures unchanged { OnErr result (SameList self.old self.new) }
+    {
+        self.add_entry(text, without_semicolon)
+    }
+
+    /// The same, by what reading gives alone.
+    fn add_entry(&mut self, text: &[u8], without_semicolon: bool) -> Result<(), ScriptFault>
         ensures added { OnOk result (AddsText without_semicolon text.now self.old self.new) }
         ensures refused { IfErr result (λ e. Refuses e text.now (added_entry without_semicolon text.now)) }
         ensures unchanged { OnErr result (SameList self.old self.new) }

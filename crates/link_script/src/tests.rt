@@ -42,10 +42,12 @@ fn names_of_cxx_are_seen_demangled(rt: HostRuntime) -> Result<(), Fail> {
         rt.alloc(),
         b"A { extern \"C++\" { shown; }; }; B { local: foo; };",
     )?;
-    assert_eq!(rt; version_of(&script, b"foo", &Plain), Some(3));
-    assert_eq!(rt; version_of(&script, b"foo", &Constant), Some(2));
-    assert_eq!(rt; version_of(&script, b"foo", &&Constant), Some(2));
-    assert_eq!(rt; version_of(&script, b"\xff", &Constant), None);
+    assert!(rt;
+        version_of(&script, b"foo", &Plain) == Some(3)
+            && version_of(&script, b"foo", &Constant) == Some(2)
+            && version_of(&script, b"foo", &&Constant) == Some(2)
+            && version_of(&script, b"\xff", &Constant).is_none()
+    );
     Ok(())
 }
 
@@ -53,10 +55,12 @@ fn names_of_cxx_are_seen_demangled(rt: HostRuntime) -> Result<(), Fail> {
 fn rules_see_names_demangled(rt: HostRuntime) -> Result<(), Fail> {
     let mut rules = BasicMatchRules::new(rt.alloc());
     rules.push(SymbolMatcher::Exact(Name::from_slice(rt.alloc(), b"shown")?))?;
-    assert!(rt; rules.matches_exact(b"foo", true, &Constant));
-    assert!(rt; !rules.matches_exact(b"foo", false, &Constant));
-    assert!(rt; !rules.matches_glob(b"shown", true, false, &Plain));
-    assert!(rt; !rules.matches_all());
+    assert!(rt;
+        rules.matches_exact(b"foo", true, &Constant)
+            && !rules.matches_exact(b"foo", false, &Constant)
+            && !rules.matches_glob(b"shown", true, false, &Plain)
+            && !rules.matches_all()
+    );
     Ok(())
 }
 
@@ -89,9 +93,11 @@ fn chain(alloc: Global, count: u32) -> Result<String, Fail> {
 fn many_versions(rt: HostRuntime) -> Result<(), Fail> {
     let text = chain(rt.alloc(), 2_000)?;
     let script = script(rt.alloc(), text.as_bytes())?;
-    assert_eq!(rt; script.parent_count(), 1_999);
-    assert_eq!(rt; version_of(&script, b"n", &Plain), Some(2));
-    assert_eq!(rt; version_of(&script, b"n1234", &Plain), Some(1_236));
-    assert_eq!(rt; version_of(&script, b"p1999_", &Plain), Some(2_001));
+    assert!(rt;
+        script.parent_count() == 1_999
+            && version_of(&script, b"n", &Plain) == Some(2)
+            && version_of(&script, b"n1234", &Plain) == Some(1_236)
+            && version_of(&script, b"p1999_", &Plain) == Some(2_001)
+    );
     Ok(())
 }
