@@ -6,6 +6,7 @@ mod checks;
 mod copies;
 mod input_queries;
 mod internal_symbols;
+mod name_block;
 mod object;
 mod options;
 mod output_queries;
@@ -15,9 +16,13 @@ mod platform;
 #[cfg(test)]
 mod platform_tests;
 mod prelude;
+#[cfg(test)]
+mod row_tests;
 mod segment_name;
+mod symbol_columns;
 mod symbol_entry;
 mod symbol_queries;
+mod symbol_row;
 mod table_error;
 mod table_laws;
 #[cfg(test)]
@@ -38,6 +43,7 @@ pub use platform::{ElfLike, MachLike, Platform};
 pub use prelude::Prelude;
 pub use segment_name::SegmentName;
 pub use symbol_entry::{Place, SymbolBinding, SymbolEntry, SymbolKind};
+pub use symbol_row::SymbolRow;
 pub use table_error::TableError;
 pub use table_laws::{accepted_tables, checked_tables};
 pub use too_many::TooManyKind;

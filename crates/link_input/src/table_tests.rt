@@ -150,10 +150,10 @@ fn is_read<P: Platform>(alloc: Global, table: ObjectTable) -> Result<bool, Table
     }
     let second = SymbolIndex::new(1);
     Ok(
-        object.symbol(second).name.is(b"f")
+        object.symbol(second).name().is(b"f")
             && object.section(second) == Some(SectionIndex::new(3))
-            && object.symbols()[0].is_null()
-            && object.signature(0).name.is(b"f")
+            && object.symbol_at(0).is_null()
+            && object.signature(0).name().is(b"f")
             && object.header(0) == 1
             && object.members(0) == [2, 3].as_slice()
             && object.lib_name().is(b"a.o")
