@@ -1,6 +1,6 @@
 //! Tests of the prelude, of groups, and of how files are shown.
 
-ghost use Rattle.std.specs.Prelude.{◌≤◌};
+ghost use Rattle.std.specs.Prelude.{◌≡◌, ◌≤◌, IfOk};
 
 use crate::{Group, GroupsError, SyntheticSymbols, create_groups};
 use link_flags::Visibility;
@@ -194,7 +194,9 @@ fn a_group_has_at_most_256_files(rt: HostRuntime) -> Result<(), Fail> {
 }
 
 /// Options that give the prelude a forced name and a redirected one.
-fn options_with_names(alloc: Global) -> Result<Options, Fail> {
+fn options_with_names(alloc: Global) -> Result<Options, Fail>
+    ensures { IfOk result (λ options. options.files_per_group ≡ 256) }
+{
     let mut options = Options::new(alloc);
     options
         .force_undefined
