@@ -4,7 +4,7 @@ ghost use Rattle.std.specs.Prelude.{◌≡◌, ◌++◌, ◌<◌, ◌^◌, map, 
 ghost use Rattle.link_rules.specs.Plain.World.{undefined_symbol, symbol_of, symbols_of, is_definition, is_reference};
 ghost use Rattle.link_rules.specs.Plain.Lists.{is_listed};
 
-use link_input::{ParsedInputObject, Place, Platform, SymbolBinding, SymbolEntry};
+use link_input::{InputObject, ParsedInputObject, Place, Platform, SymbolBinding, SymbolRow};
 use link_names::Name;
 use link_rules::Symbol;
 use std::alloc::{AllocError, Global};
@@ -40,12 +40,7 @@ pub fn symbols_of<P: Platform>(
     let mut symbols = Vec::new(alloc);
     symbols.push(undefined_symbol(alloc))?;
     for (i, object) in objects.iter().enumerate() {
-        push_symbols(
-            alloc,
-            &mut symbols,
-            i,
-            object.object().table().symbols.as_slice(),
-        )?;
+        push_symbols(alloc, &mut symbols, i, object.object())?;
     }
     Ok(symbols)
 }
@@ -63,28 +58,28 @@ fn undefined_symbol(alloc: Global) -> Symbol
 }
 
 /// Adds the symbols of an object's table.
-fn push_symbols(
+fn push_symbols<P: Platform>(
     alloc: Global,
     symbols: &mut Vec<Symbol>,
     object: usize,
-    entries: &[SymbolEntry],
+    table: &InputObject<P>,
 ) -> Result<(), AllocError>
-    ensures { OnOk result (symbols.new.items ≡ symbols.old.items ++ map (symbol_of object) entries.now) }
+    ensures { OnOk result (symbols.new.items ≡ symbols.old.items ++ map (symbol_of object) table.now.symbols) }
 {
-    for entry in entries {
-        symbols.push(symbol_of(alloc, object, entry)?)?;
+    for place in 0..table.num_symbols() {
+        symbols.push(symbol_of(alloc, object, &table.symbol_at(place))?)?;
     }
     Ok(())
 }
 
 /// What the link reads of an entry.
-fn symbol_of(alloc: Global, object: usize, entry: &SymbolEntry) -> Result<Symbol, AllocError>
+fn symbol_of(alloc: Global, object: usize, entry: &SymbolRow) -> Result<Symbol, AllocError>
     ensures { IfOk result (λ symbol. symbol ≡ symbol_of object entry.now) }
 {
     Ok(Symbol {
         object: Some(object),
-        name: Name::from_slice(alloc, entry.name.as_slice())?,
-        binding: entry.binding,
-        place: entry.place,
+        name: Name::from_slice(alloc, entry.name().as_slice())?,
+        binding: entry.binding(),
+        place: entry.place(),
     })
 }

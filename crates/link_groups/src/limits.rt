@@ -39,7 +39,7 @@ fn sections_of<P: Platform>(object: &ParsedInputObject<P>) -> u128
     if object.is_dynamic() {
         0
     } else {
-        u128::from(object.object().table().sections)
+        u128::from(object.object().num_sections())
     }
 }
 

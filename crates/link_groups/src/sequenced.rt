@@ -11,8 +11,8 @@ use link_flags::SymbolStrength;
 use link_ids::{
     FileId, InputSectionId, InputSectionIndex, SectionIdRange, SymbolId, SymbolIdRange,
 };
-use link_input::{ParsedInputObject, Platform, ProcessedLinkerScript, StubSymbol, SymbolEntry};
-use link_names::{Name, Seq};
+use link_input::{ParsedInputObject, Platform, ProcessedLinkerScript, StubSymbol, SymbolRow};
+use link_names::{Name, NameView, Seq};
 
 /// An object with its place in a link. Mirrors Wild's `SequencedInputObject`.
 #[derive(Drop)]
@@ -54,32 +54,32 @@ pub struct SyntheticSymbols {
 }
 
 impl<P: Platform> SequencedInputObject<P> {
-    /// The entry of a symbol of the object.
-    pub fn symbol_entry(&self, id: SymbolId) -> &SymbolEntry
+    /// The entry of a symbol of the object, as its table lends it.
+    pub fn symbol_row(&self, id: SymbolId) -> SymbolRow<'_>
         requires table { self.now.symbol_id_range.len ≡ length self.now.parsed.object.symbols }
         requires inside { IsInside self.now.symbol_id_range id }
-        ensures { slice_get self.now.parsed.object.symbols (offset_in self.now.symbol_id_range id) ≡ Some result.now }
+        ensures { slice_get self.now.parsed.object.symbols (offset_in self.now.symbol_id_range id) ≡ Some result }
     {
-        let symbols = self.parsed.object().table().symbols.as_slice();
-        &symbols[id.to_offset(self.symbol_id_range)]
+        let place = id.to_offset(self.symbol_id_range);
+        self.parsed.object().symbol_at(place)
     }
 
     /// The name of a symbol of the object.
-    pub fn symbol_name(&self, id: SymbolId) -> &Name
+    pub fn symbol_name(&self, id: SymbolId) -> NameView<'_>
         requires table { self.now.symbol_id_range.len ≡ length self.now.parsed.object.symbols }
         requires inside { IsInside self.now.symbol_id_range id }
-        ensures { option_map (λ e. e.name) (slice_get self.now.parsed.object.symbols (offset_in self.now.symbol_id_range id)) ≡ Some result.now }
+        ensures { option_map (λ e. e.name) (slice_get self.now.parsed.object.symbols (offset_in self.now.symbol_id_range id)) ≡ Some result }
     {
-        &self.symbol_entry(id).name
+        self.symbol_row(id).name()
     }
 
     /// The version of a symbol of the object, where it has one.
-    pub fn symbol_version_debug(&self, id: SymbolId) -> Option<&Name>
+    pub fn symbol_version_debug(&self, id: SymbolId) -> Option<NameView<'_>>
         requires table { self.now.symbol_id_range.len ≡ length self.now.parsed.object.symbols }
         requires inside { IsInside self.now.symbol_id_range id }
-        ensures { option_map (λ name. name.now) result ≡ option_and_then (λ e. e.version) (slice_get self.now.parsed.object.symbols (offset_in self.now.symbol_id_range id)) }
+        ensures { result ≡ option_and_then (λ e. e.version) (slice_get self.now.parsed.object.symbols (offset_in self.now.symbol_id_range id)) }
     {
-        self.symbol_entry(id).version.as_ref()
+        self.symbol_row(id).version()
     }
 
     /// It is linked only where it is asked for: a member of an archive that isn't taken whole, or a shared object that is
@@ -105,7 +105,7 @@ impl<P: Platform> SequencedInputObject<P> {
         requires inside { IsInside self.now.symbol_id_range id }
         ensures { option_map binding_strength (slice_get self.now.parsed.object.symbols (offset_in self.now.symbol_id_range id)) ≡ Some result }
     {
-        self.symbol_entry(id).strength()
+        self.symbol_row(id).strength()
     }
 
     /// The id of the section that a symbol of the object stands in: none where it stands in no section, or where the object
@@ -115,7 +115,7 @@ impl<P: Platform> SequencedInputObject<P> {
         requires inside { IsInside self.now.symbol_id_range id }
         ensures { result ≡ option_and_then (section_id self.now.section_id_range) (slice_get self.now.parsed.object.symbols (offset_in self.now.symbol_id_range id)) }
     {
-        let section = self.symbol_entry(id).section()?;
+        let section = self.symbol_row(id).section()?;
         if section.as_usize() < self.section_id_range.len() {
             let index = InputSectionIndex::from(section);
             Some(self.section_id_range.input_to_id(index))
@@ -127,13 +127,14 @@ impl<P: Platform> SequencedInputObject<P> {
 
 impl SequencedLinkerScript {
     /// The name of a symbol of the script.
-    pub fn symbol_name(&self, id: SymbolId) -> &Name
+    pub fn symbol_name(&self, id: SymbolId) -> NameView<'_>
         requires table { self.now.symbol_id_range.len ≡ length self.now.parsed.symbol_defs }
         requires inside { IsInside self.now.symbol_id_range id }
-        ensures { option_map (λ symbol. symbol.name) (slice_get self.now.parsed.symbol_defs (offset_in self.now.symbol_id_range id)) ≡ Some result.now }
+        ensures { option_map (λ symbol. symbol.name) (slice_get self.now.parsed.symbol_defs (offset_in self.now.symbol_id_range id)) ≡ Some result }
     {
         let symbols = self.parsed.symbol_defs.as_slice();
-        &symbols[id.to_offset(self.symbol_id_range)].name
+        let symbol = &symbols[id.to_offset(self.symbol_id_range)];
+        NameView::new(symbol.name.as_slice())
     }
 }
 
@@ -149,12 +150,12 @@ impl SequencedStubLibrary {
     }
 
     /// The name of a symbol of the library.
-    pub fn symbol_name(&self, id: SymbolId) -> &Name
+    pub fn symbol_name(&self, id: SymbolId) -> NameView<'_>
         requires table { self.now.symbol_id_range.len ≡ length self.now.defined_symbols }
         requires inside { IsInside self.now.symbol_id_range id }
-        ensures { option_map (λ symbol. symbol.name) (slice_get self.now.defined_symbols (offset_in self.now.symbol_id_range id)) ≡ Some result.now }
+        ensures { option_map (λ symbol. symbol.name) (slice_get self.now.defined_symbols (offset_in self.now.symbol_id_range id)) ≡ Some result }
     {
-        &self.symbol(id).name
+        NameView::new(self.symbol(id).name.as_slice())
     }
 
     /// How strongly a symbol of the library binds: strong or weak, by its list.

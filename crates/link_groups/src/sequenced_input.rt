@@ -13,7 +13,7 @@ use crate::sequenced::{
 use link_flags::SymbolStrength;
 use link_ids::{InputSectionId, SymbolId};
 use link_input::{Platform, Prelude};
-use link_names::Name;
+use link_names::NameView;
 use std::fmt;
 
 /// One file of a group. Mirrors Wild's `SequencedInput`.
@@ -28,13 +28,15 @@ pub enum SequencedInput<'a, P: Platform> {
 
 impl<P: Platform> SequencedInput<'_, P> {
     /// The name of a symbol of the file.
-    pub fn symbol_name(&self, id: SymbolId) -> &Name
+    pub fn symbol_name(&self, id: SymbolId) -> NameView<'_>
         requires table { (sequenced_file self.now).symbols.len ≡ symbol_count (sequenced_file self.now).file }
         requires inside { IsInside (sequenced_file self.now).symbols id }
-        ensures { name_at (sequenced_file self.now).file (offset_in (sequenced_file self.now).symbols id) ≡ Some result.now }
+        ensures { name_at (sequenced_file self.now).file (offset_in (sequenced_file self.now).symbols id) ≡ Some result }
     {
         match self {
-            SequencedInput::Prelude(prelude) => prelude.symbol_name(id),
+            SequencedInput::Prelude(prelude) => {
+                NameView::new(prelude.symbol_name(id).as_slice())
+            }
             SequencedInput::Object(object) => object.symbol_name(id),
             SequencedInput::LinkerScript(script) => script.symbol_name(id),
             SequencedInput::StubLibrary(stub) => stub.symbol_name(id),
@@ -43,10 +45,10 @@ impl<P: Platform> SequencedInput<'_, P> {
     }
 
     /// The version of a symbol of the file, where it has one: only objects' symbols have.
-    pub fn symbol_version_debug(&self, id: SymbolId) -> Option<&Name>
+    pub fn symbol_version_debug(&self, id: SymbolId) -> Option<NameView<'_>>
         requires table { AreIdsOf (sequenced_file self.now).file (sequenced_file self.now).symbols.len }
         requires inside { IsInside (sequenced_file self.now).symbols id }
-        ensures { option_map (λ name. name.now) result ≡ version_at (sequenced_file self.now).file (offset_in (sequenced_file self.now).symbols id) }
+        ensures { result ≡ version_at (sequenced_file self.now).file (offset_in (sequenced_file self.now).symbols id) }
     {
         match self {
             SequencedInput::Object(object) => object.symbol_version_debug(id),

@@ -52,7 +52,7 @@ impl NextIds {
         if parsed.is_dynamic() {
             SectionIdRange::empty()
         } else {
-            self.take_sections(parsed.object().table().sections as usize)
+            self.take_sections(parsed.object().num_sections() as usize)
         }
     }
 }

@@ -1,2 +1,4 @@
 pub mod FirstPlace
 pub mod Accepted
+pub mod InBlock
+pub mod SideBySide

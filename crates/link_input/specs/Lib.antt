@@ -9,6 +9,8 @@ pub mod Interposition
 pub mod ObjectFile
 pub mod Limits
 pub mod Checks
+pub mod NameBlock
+pub mod Columns
 pub mod TableErrorText
 pub mod TableExamples
 pub mod PreludeSymbols

@@ -80,7 +80,7 @@ fn lacks_null(has_null: bool, symbols: &[SymbolEntry]) -> bool
     ensures { result ≡ lacks_null has_null symbols.now }
 {
     match symbols {
-        [first, ..] => has_null && !first.is_null(),
+        [first, ..] => has_null && !first.row().is_null(),
         [] => false,
     }
 }
@@ -90,7 +90,7 @@ fn undefined_local(has_null: bool, symbols: &[SymbolEntry]) -> Option<usize>
     ensures { result ≡ first_place (is_undefined_local has_null) 0 symbols.now }
 {
     for (i, symbol) in symbols.iter().enumerate() {
-        if symbol.is_undefined() && symbol.is_local() && !(has_null && i == 0) {
+        if symbol.place.is_undefined() && symbol.binding.is_local() && !(has_null && i == 0) {
             return Some(i);
         }
     }

@@ -7,7 +7,9 @@ ghost use Rattle.link_input.specs.Checks.{first_fault};
 
 use crate::checks::first_fault;
 use crate::platform::Platform;
+use crate::symbol_columns::SymbolColumns;
 use crate::symbol_entry::SymbolEntry;
+use crate::symbol_row::SymbolRow;
 use crate::table_error::TableError;
 use link_ids::{SectionIndex, SymbolIndex};
 use link_names::{Name, Seq};
@@ -49,10 +51,14 @@ pub struct ObjectTable {
     pub groups: Seq<SectionGroup>,
 }
 
-/// The table of an object of a platform, once it is checked. A contract sees the table.
+/// The table of an object of a platform, once it is checked, with its symbols in columns. A contract sees the table.
 #[derive(Drop)]
 pub struct InputObject<P: Platform> {
-    table: ObjectTable,
+    is_dynamic: bool,
+    lib_name: Name,
+    sections: u32,
+    symbols: SymbolColumns,
+    groups: Seq<SectionGroup>,
     platform: PhantomData<P>,
 }
 
@@ -63,16 +69,17 @@ impl<P: Platform> Model for InputObject<P> {
 
     ghost Value = { ObjectTable };
 
-    ghost view = { λ o. o.table };
+    ghost view = { λ o. record { is_dynamic = o.is_dynamic; lib_name = o.lib_name; sections = o.sections; symbols = o.symbols; groups = o.groups } };
 
-    ghost invariant = { λ o. first_fault P.HAS_NULL_SYMBOL_ENTRY o.table ≡ None };
+    ghost invariant = { λ o. first_fault P.HAS_NULL_SYMBOL_ENTRY
+        (record { is_dynamic = o.is_dynamic; lib_name = o.lib_name; sections = o.sections; symbols = o.symbols; groups = o.groups }) ≡ None };
 }
 
 impl<P: Platform> InputObject<P> {
     /// The table as an object, where it passes every check. Otherwise the first check that it fails, each over the whole
     /// table before the next, with the least place where it fails:
     ///
-    /// 1. `NullEntry`: the platform has a null entry, the table has symbols, and entry 0 isn't null (`SymbolEntry::is_null`).
+    /// 1. `NullEntry`: the platform has a null entry, the table has symbols, and entry 0 isn't null (`SymbolRow::is_null`).
     /// 2. `UndefinedLocal(symbol)`: the symbol is undefined and local; entry 0 is let off where the platform has a null entry.
     /// 3. `VersionlessNotDefault(symbol)`: the symbol has no version and is not default.
     /// 4. `SectionRange(symbol)`: its section is not below the number of sections.
@@ -90,68 +97,72 @@ impl<P: Platform> InputObject<P> {
         if let Some(fault) = first_fault(alloc, P::HAS_NULL_SYMBOL_ENTRY, &table)? {
             return Err(fault);
         }
+        let ObjectTable {
+            is_dynamic,
+            lib_name,
+            sections,
+            symbols,
+            groups,
+        } = table;
         Ok(InputObject {
-            table,
+            is_dynamic,
+            lib_name,
+            sections,
+            symbols: SymbolColumns::from_entries(alloc, symbols.as_slice())?,
+            groups,
             platform: PhantomData,
         })
-    }
-
-    /// What was read of it.
-    pub fn table(&self) -> &ObjectTable
-        ensures { result.now ≡ self.now }
-    {
-        &self.table
     }
 
     /// It is a shared object.
     pub fn is_dynamic(&self) -> bool
         ensures { result ≡ self.now.is_dynamic }
     {
-        self.table.is_dynamic
+        self.is_dynamic
     }
 
     /// The name by which a program asks for the shared object at run time.
     pub fn lib_name(&self) -> &Name
         ensures { result.now ≡ self.now.lib_name }
     {
-        &self.table.lib_name
+        &self.lib_name
     }
 
     /// How many sections it has.
     pub fn num_sections(&self) -> u32
         ensures { result ≡ self.now.sections }
     {
-        self.table.sections
+        self.sections
     }
 
     /// How many entries its symbol table has.
     pub fn num_symbols(&self) -> usize
         ensures { result ≡ length self.now.symbols }
     {
-        self.table.symbols.len()
-    }
-
-    /// The entries of its symbol table, in order.
-    pub fn symbols(&self) -> &[SymbolEntry]
-        ensures { result.now ≡ self.now.symbols }
-    {
-        self.table.symbols.as_slice()
+        self.symbols.len()
     }
 
     /// Its section groups, in order.
     pub fn groups(&self) -> &[SectionGroup]
         ensures { result.now ≡ self.now.groups }
     {
-        self.table.groups.as_slice()
+        self.groups.as_slice()
     }
 
     /// The entry at this place of its symbol table. `num_symbols` is the test.
-    pub fn symbol(&self, index: SymbolIndex) -> &SymbolEntry
+    pub fn symbol(&self, index: SymbolIndex) -> SymbolRow<'_>
         requires { index < length self.now.symbols }
-        ensures { slice_get self.now.symbols index ≡ Some result.now }
+        ensures { slice_get self.now.symbols index ≡ Some result }
     {
-        let symbols = self.table.symbols.as_slice();
-        &symbols[index.as_usize()]
+        self.symbol_at(index.as_usize())
+    }
+
+    /// The entry at this place of its symbol table, for a pass over all of them. `num_symbols` is the test.
+    pub fn symbol_at(&self, place: usize) -> SymbolRow<'_>
+        requires { place < length self.now.symbols }
+        ensures { slice_get self.now.symbols place ≡ Some result }
+    {
+        self.symbols.row(place)
     }
 
     /// The section that the symbol at this place stands in, one of the object's. `num_symbols` is the test.
@@ -160,8 +171,7 @@ impl<P: Platform> InputObject<P> {
         ensures place { option_map (λ symbol. section_of symbol.place) (slice_get self.now.symbols index) ≡ Some result }
         ensures below { IfSome result (λ section. section < self.now.sections) }
     {
-        let symbols = self.table.symbols.as_slice();
-        symbols[index.as_usize()].section()
+        self.symbols.row(index.as_usize()).section()
     }
 
     /// The section group at this place: its signature is a symbol of the object, and its header and members are sections
@@ -173,14 +183,14 @@ impl<P: Platform> InputObject<P> {
         ensures header { result.now.index < self.now.sections }
         ensures members { All (λ member. member < self.now.sections) result.now.members }
     {
-        let groups = self.table.groups.as_slice();
+        let groups = self.groups.as_slice();
         &groups[group]
     }
 
     /// The symbol whose name is the signature of the group at this place.
-    pub fn signature(&self, group: usize) -> &SymbolEntry
+    pub fn signature(&self, group: usize) -> SymbolRow<'_>
         requires { group < length self.now.groups }
-        ensures { option_and_then (λ g. slice_get self.now.symbols g.signature_symbol) (slice_get self.now.groups group) ≡ Some result.now }
+        ensures { option_and_then (λ g. slice_get self.now.symbols g.signature_symbol) (slice_get self.now.groups group) ≡ Some result }
     {
         self.symbol(SymbolIndex::new(self.group(group).signature_symbol))
     }

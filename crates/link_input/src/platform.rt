@@ -9,7 +9,7 @@ ghost use Rattle.link_input.specs.declared.options.OutputKind.{OutputKind};
 ghost use Rattle.link_input.specs.Interposition.{keeps_place};
 
 use crate::options::OutputKind;
-use crate::symbol_entry::SymbolEntry;
+use crate::symbol_row::SymbolRow;
 use link_flags::Visibility;
 use link_script::ExportList;
 use link_syntax::ScriptFault;
@@ -38,7 +38,7 @@ pub trait Platform: Sized + Drop {
 
     /// No other file may take the place of the symbol at run time. `listed` says whether the export list has its name;
     /// it is `None` exactly where no export list is given and no export name is forced.
-    fn non_interposable(symbol: &SymbolEntry, output: OutputKind, listed: Option<bool>) -> bool
+    fn non_interposable(symbol: &SymbolRow, output: OutputKind, listed: Option<bool>) -> bool
         ensures { result ≡ is_non_interposable symbol.now output listed };
 
     /// What the text of an export list says, or its first fault.
@@ -77,7 +77,7 @@ impl Platform for ElfLike {
 
     ghost is_non_interposable = { keeps_place false };
 
-    fn non_interposable(symbol: &SymbolEntry, output: OutputKind, listed: Option<bool>) -> bool {
+    fn non_interposable(symbol: &SymbolRow, output: OutputKind, listed: Option<bool>) -> bool {
         keeps_place(false, symbol, output, listed)
     }
 
@@ -103,7 +103,7 @@ impl Platform for MachLike {
 
     ghost is_non_interposable = { keeps_place true };
 
-    fn non_interposable(symbol: &SymbolEntry, output: OutputKind, listed: Option<bool>) -> bool {
+    fn non_interposable(symbol: &SymbolRow, output: OutputKind, listed: Option<bool>) -> bool {
         keeps_place(true, symbol, output, listed)
     }
 
@@ -117,14 +117,14 @@ impl Platform for MachLike {
 /// The rule of both platforms, of which one has lists that restrict.
 fn keeps_place(
     lists_restrict: bool,
-    symbol: &SymbolEntry,
+    symbol: &SymbolRow,
     output: OutputKind,
     listed: Option<bool>,
 ) -> bool
     ensures { result ≡ keeps_place lists_restrict symbol.now output listed }
 {
     symbol.is_local()
-        || symbol.visibility != Visibility::Default
+        || symbol.visibility() != Visibility::Default
         || (!symbol.is_undefined()
             && (!output.is_shared_object() || (lists_restrict && listed == Some(false))))
 }

@@ -175,10 +175,7 @@ fn nested(alloc: Global, depth: usize) -> Result<String, AllocError> {
 }
 
 /// A byte order mark, and bytes that are no UTF-8.
-const NO_JSON: &[&[u8]] = &[
-    b"\xef\xbb\xbf{}",
-    b"{\"objects\":[{\"name\":\"\xff\"}]}",
-];
+const NO_JSON: &[&[u8]] = &[b"\xef\xbb\xbf{}", b"{\"objects\":[{\"name\":\"\xff\"}]}"];
 
 /// How deep lists are nested in the root's object, which is one level itself, and what is said of them.
 const DEPTHS: &[(usize, &str)] = &[(126, "objects[0]: expected object"), (127, "not JSON")];
@@ -206,18 +203,16 @@ fn elf_world(manifest: Manifest) -> Option<World<ElfLike>> {
 }
 
 /// An object in words: its file, whether it is of an archive and of a whole one, and its symbols.
-fn object_text(
-    alloc: Global,
-    object: &ParsedInputObject<ElfLike>,
-) -> Result<String, AllocError> {
+fn object_text(alloc: Global, object: &ParsedInputObject<ElfLike>) -> Result<String, AllocError> {
     let file = object.input();
     let modifiers = object.modifiers();
     let (archive, whole) = (modifiers.archive, modifiers.whole_archive);
     let sections = object.object().num_sections();
     let mut text = format!(in alloc; "{file} {archive} {whole} {sections}:")?;
-    for symbol in object.object().symbols() {
-        let name = &symbol.name;
-        let (binding, place) = (symbol.binding, symbol.place);
+    for i in 0..object.num_symbols() {
+        let symbol = object.object().symbol_at(i);
+        let name = symbol.name();
+        let (binding, place) = (symbol.binding(), symbol.place());
         text.push_str(format!(in alloc; " {name} {binding:?} {place:?},")?.as_str())?;
     }
     Ok(text)

@@ -1,7 +1,7 @@
 //! Tests of what no contract says.
 
 use crate::{
-    Name, PassThroughHasher, PreHashed, PreHashedSymbolName, Seq, UnversionedSymbolName,
+    Name, NameView, PassThroughHasher, PreHashed, PreHashedSymbolName, Seq, UnversionedSymbolName,
     VersionedSymbolName, hash_bytes, is_mapping_symbol_name, number_in_map, parse_number, text_of,
 };
 use std::alloc::Global;
@@ -34,6 +34,7 @@ fn names_are_shown(rt: HostRuntime) -> Result<(), Fail> {
     for &(bytes, is_text, want) in NAMES {
         let name = Name::from_slice(rt.alloc(), bytes)?;
         shows(&rt, rt.alloc(), &name, want)?;
+        shows(&rt, rt.alloc(), &NameView::new(bytes), want)?;
         let unversioned = UnversionedSymbolName::new(name.clone()?);
         shows(&rt, rt.alloc(), &unversioned, want)?;
         assert_eq!(rt; text_of(bytes).is_some(), is_text);

@@ -1,4 +1,4 @@
-use Rattle.std.proofs.Common.{◌≡◌, ◌-◌, ◌∙◌, ap, slice_get, arith}
+use Rattle.std.proofs.Common.{◌≡◌, ◌-◌, ◌∙◌, Some, ap, sym, slice_get, arith}
 use Rattle.std.specs.Prelude.{option_map}
 use Rattle.link_ids.specs.Span.{offset_in}
 use Rattle.link_input.specs.Symbols.{Symbol, symbol_of, object_symbol, in_prelude, in_script, in_stub, stub_strength}
@@ -9,7 +9,8 @@ pub returns-in-Prelude : goal.returns-in-Prelude
 returns-in-Prelude g c =
     let symbols = c.in-Prelude.prelude.now in
     let at : c.args.id - 0 ≡ c.args.id = omega arith in
-    rw c.in-Prelude.is (get-map (λ (x : Symbol). x.name) (λ d. symbol_of d.name (in_prelude d)) symbols (c.args.id - 0) ∙ ap (λ i. option_map (λ d. d.name) (slice_get symbols i)) at ∙ c.symbol_name.ensures)
+    let lent = c.new.ensures ∙ c.as_slice.ensures in
+    rw c.in-Prelude.is (get-map (λ (x : Symbol). x.name) (λ d. symbol_of d.name (in_prelude d)) symbols (c.args.id - 0) ∙ ap (λ i. option_map (λ d. d.name) (slice_get symbols i)) at ∙ c.symbol_name.ensures ∙ ap Some (sym lent))
 
 pub returns-in-Object : goal.returns-in-Object
 returns-in-Object g c =
