@@ -75,8 +75,10 @@ fn rows<P: Platform>(alloc: Global, object: &InputObject<P>) -> Result<String, A
 
 /// The rows of a table, or why it is refused.
 fn told(alloc: Global, header: u32) -> Result<String, AllocError> {
-    let kept: Result<InputObject<MachLike>, TableError> =
-        InputObject::new(alloc, table(alloc, header)?);
+    let kept: Result<InputObject<MachLike>, TableError> = InputObject::new(
+        alloc,
+        table(alloc, header)?,
+    );
     match kept {
         Ok(object) => rows(alloc, &object),
         Err(error) => format!(in alloc; "{error}"),

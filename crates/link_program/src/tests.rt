@@ -156,7 +156,10 @@ fn each_manifest_has_its_text(rt: HostRuntime) -> Result<(), Fail> {
     let alloc = rt.alloc();
     for &(manifest, status, text) in MANIFESTS {
         let (ended, taken) = ran(&rt, alloc, "link 2", manifest, 100, 0, 0)?;
-        assert!(rt; ended == status && taken.as_slice() == text.as_bytes(), "{manifest}");
+        assert!(rt;
+            ended == status && taken.as_slice() == text.as_bytes(),
+            "{manifest}"
+        );
     }
     Ok(())
 }
