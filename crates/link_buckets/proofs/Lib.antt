@@ -1,0 +1,10 @@
+pub mod Keys
+pub mod Search
+pub mod Noting
+pub mod Changes
+pub mod Rounds
+pub mod Applied
+pub mod Growing
+pub mod Walking
+pub mod Returning
+pub mod Scanning

@@ -1,0 +1,6 @@
+pub mod Keys
+pub mod Heads
+pub mod Places
+pub mod Noted
+pub mod Bucket
+pub mod Buckets

@@ -1,0 +1,230 @@
+//! The buckets of names.
+
+ghost use Rattle.std.specs.Prelude.{◌<◌, vec_len};
+
+use crate::bucket::Bucket;
+use crate::definition::Definition;
+use crate::head::Definitions;
+use crate::label::{Label, Names};
+use std::alloc::{AllocError, Global};
+
+/// Names in buckets by their hash numbers. What is said of a name is the same for every number of buckets.
+#[derive(Drop)]
+pub struct Buckets {
+    buckets: Vec<Bucket>,
+    ghost filled: { 0 < vec_len buckets },
+}
+
+impl Buckets {
+    ghost use Rattle.std.specs.Prelude.{◌≡◌, ◌++◌, [], ◌∷◌, ◌%◌, ℕ, Option, None, Some, is_some, IsTrue, IfOk, OnOk, OnErr, length, if◌then◌else◌};
+    ghost use Rattle.std.specs.Option.{option_map_or, option_or};
+    ghost use Rattle.link_names.specs.NameHash.{fnv_1a};
+    ghost use Rattle.link_buckets.specs.declared.label.Label.{Label};
+    ghost use Rattle.link_buckets.specs.Keys.{Key, key_of, leads_to, number_of, same_key};
+    ghost use Rattle.link_buckets.specs.Heads.{without_last};
+    ghost use Rattle.link_buckets.specs.Buckets.{AreHashed, AreKeyed, buckets_in, definitions_at, first_label, ids_with, label_at, mapped_at, overridden_at};
+
+    /// So many buckets, with no names.
+    pub fn new(alloc: Global, count: usize) -> Result<Self, AllocError>
+        requires { 0 < count }
+        ensures count { IfOk result (λ bs. length (buckets_in bs) ≡ count) }
+        ensures keyed { IfOk result (λ bs. (names : Label → Option Key) → AreKeyed names bs) }
+        ensures definitions { IfOk result (λ bs. (names : Label → Option Key) (asked : Key) → definitions_at names bs asked ≡ []) }
+        ensures overridden { IfOk result (λ bs. (names : Label → Option Key) (asked : Key) → overridden_at names bs asked ≡ None) }
+        ensures labels { IfOk result (λ bs. (names : Label → Option Key) (asked : Key) → label_at names bs asked ≡ None) }
+    {
+        let mut buckets = Vec::new(alloc);
+        for _ in 0..count {
+            buckets.push(Bucket::new(alloc))?;
+        }
+        Ok(Buckets { buckets })
+    }
+
+    /// The buckets, for those who walk over all names.
+    pub fn buckets(&self) -> &[Bucket]
+        ensures { result.now ≡ buckets_in self.now }
+    {
+        self.buckets.as_slice()
+    }
+
+    /// The place of a hash number's bucket.
+    fn place_of(&self, hash: u64) -> usize
+        ensures place { result ≡ hash % length (buckets_in self.now) }
+        ensures within { result < length (buckets_in self.now) }
+    {
+        (hash % self.buckets.len() as u64) as usize
+    }
+
+    /// Adds a definition at the end of those of the label's key.
+    pub fn add<T: Names>(
+        &mut self,
+        table: &T,
+        hash: u64,
+        label: Label,
+        id: u32,
+    ) -> Result<(), AllocError>
+        requires keyed { AreKeyed (T.key_at table.now) self.old }
+        requires hashed { number_of (T.key_at table.now) label ≡ Some hash }
+        ensures keyed { AreKeyed (T.key_at table.now) self.new }
+        ensures definitions { OnOk result ((asked : Key) → definitions_at (T.key_at table.now) self.new asked
+            ≡ (if leads_to (T.key_at table.now) label asked then definitions_at (T.key_at table.now) self.old asked ++ id ∷ [] else definitions_at (T.key_at table.now) self.old asked)) }
+        ensures err { OnErr result ((asked : Key) → definitions_at (T.key_at table.now) self.new asked ≡ definitions_at (T.key_at table.now) self.old asked) }
+        ensures overridden { (asked : Key) → overridden_at (T.key_at table.now) self.new asked ≡ overridden_at (T.key_at table.now) self.old asked }
+        ensures labels { OnOk result ((asked : Key) → label_at (T.key_at table.now) self.new asked
+            ≡ (if leads_to (T.key_at table.now) label asked then option_or (label_at (T.key_at table.now) self.old asked) (Some label) else label_at (T.key_at table.now) self.old asked)) }
+        ensures labels_err { OnErr result ((asked : Key) → label_at (T.key_at table.now) self.new asked ≡ label_at (T.key_at table.now) self.old asked) }
+    {
+        let place = self.place_of(hash);
+        let bucket = &mut self.buckets[place];
+        bucket.add(table, hash, label, id)
+    }
+
+    /// The definitions of the name and version, where it has some.
+    pub fn definitions<T: Names>(
+        &self,
+        table: &T,
+        hash: u64,
+        name: &[u8],
+        version: Option<&[u8]>,
+    ) -> Option<&Definitions>
+        requires keyed { AreKeyed (T.key_at table.now) self.now }
+        requires hashed { hash ≡ fnv_1a name.now }
+        ensures { option_map_or (λ d. d.now) result [] ≡ definitions_at (T.key_at table.now) self.now (key_of name.now version.entry) }
+    {
+        self.buckets[self.place_of(hash)].definitions(table, hash, name, version)
+    }
+
+    /// What the name and version is mapped to.
+    pub fn mapped<T: Names>(
+        &self,
+        table: &T,
+        hash: u64,
+        name: &[u8],
+        version: Option<&[u8]>,
+    ) -> Option<u32>
+        requires keyed { AreKeyed (T.key_at table.now) self.now }
+        requires hashed { hash ≡ fnv_1a name.now }
+        ensures { result ≡ mapped_at (T.key_at table.now) self.now (key_of name.now version.entry) }
+    {
+        self.buckets[self.place_of(hash)].mapped(table, hash, name, version)
+    }
+
+    /// Overrides what the label's key is mapped to, and answers what it was mapped to before.
+    pub fn override_name<T: Names>(
+        &mut self,
+        table: &T,
+        hash: u64,
+        label: Label,
+        id: u32,
+    ) -> Result<Option<u32>, AllocError>
+        requires keyed { AreKeyed (T.key_at table.now) self.old }
+        requires hashed { number_of (T.key_at table.now) label ≡ Some hash }
+        ensures keyed { AreKeyed (T.key_at table.now) self.new }
+        ensures before { (asked : Key) → IsTrue (leads_to (T.key_at table.now) label asked) → IfOk result (λ before. before ≡ mapped_at (T.key_at table.now) self.old asked) }
+        ensures overridden { OnOk result ((asked : Key) → overridden_at (T.key_at table.now) self.new asked
+            ≡ (if leads_to (T.key_at table.now) label asked then Some id else overridden_at (T.key_at table.now) self.old asked)) }
+        ensures err { OnErr result ((asked : Key) → overridden_at (T.key_at table.now) self.new asked ≡ overridden_at (T.key_at table.now) self.old asked) }
+        ensures definitions { (asked : Key) → definitions_at (T.key_at table.now) self.new asked ≡ definitions_at (T.key_at table.now) self.old asked }
+        ensures labels { OnOk result ((asked : Key) → label_at (T.key_at table.now) self.new asked
+            ≡ (if leads_to (T.key_at table.now) label asked then option_or (label_at (T.key_at table.now) self.old asked) (Some label) else label_at (T.key_at table.now) self.old asked)) }
+        ensures labels_err { OnErr result ((asked : Key) → label_at (T.key_at table.now) self.new asked ≡ label_at (T.key_at table.now) self.old asked) }
+    {
+        let place = self.place_of(hash);
+        let bucket = &mut self.buckets[place];
+        bucket.override_name(table, hash, label, id)
+    }
+
+    /// Takes away what the name and version is overridden with.
+    pub fn restore<T: Names>(&mut self, table: &T, hash: u64, name: &[u8], version: Option<&[u8]>)
+        requires keyed { AreKeyed (T.key_at table.now) self.old }
+        requires hashed { hash ≡ fnv_1a name.now }
+        ensures keyed { AreKeyed (T.key_at table.now) self.new }
+        ensures overridden { (asked : Key) → overridden_at (T.key_at table.now) self.new asked
+            ≡ (if same_key (key_of name.now version.entry) asked then None else overridden_at (T.key_at table.now) self.old asked) }
+        ensures definitions { (asked : Key) → definitions_at (T.key_at table.now) self.new asked ≡ definitions_at (T.key_at table.now) self.old asked }
+        ensures labels { (asked : Key) → label_at (T.key_at table.now) self.new asked
+            ≡ (if is_some (mapped_at (T.key_at table.now) self.new asked) then label_at (T.key_at table.now) self.old asked else None) }
+    {
+        let place = self.place_of(hash);
+        let bucket = &mut self.buckets[place];
+        bucket.restore(table, hash, name, version);
+    }
+
+    /// Takes the last definition of the name and version away, where it has one.
+    pub fn remove_last<T: Names>(
+        &mut self,
+        table: &T,
+        hash: u64,
+        name: &[u8],
+        version: Option<&[u8]>,
+    )
+        requires keyed { AreKeyed (T.key_at table.now) self.old }
+        requires hashed { hash ≡ fnv_1a name.now }
+        ensures keyed { AreKeyed (T.key_at table.now) self.new }
+        ensures definitions { (asked : Key) → definitions_at (T.key_at table.now) self.new asked
+            ≡ (if same_key (key_of name.now version.entry) asked then without_last 1 (definitions_at (T.key_at table.now) self.old asked) else definitions_at (T.key_at table.now) self.old asked) }
+        ensures overridden { (asked : Key) → overridden_at (T.key_at table.now) self.new asked ≡ overridden_at (T.key_at table.now) self.old asked }
+        ensures labels { (asked : Key) → label_at (T.key_at table.now) self.new asked
+            ≡ (if is_some (mapped_at (T.key_at table.now) self.new asked) then label_at (T.key_at table.now) self.old asked else None) }
+    {
+        let place = self.place_of(hash);
+        let bucket = &mut self.buckets[place];
+        bucket.remove_last(table, hash, name, version);
+    }
+
+    /// Takes the last definition of the label's key away, where it has one.
+    fn take_last<T: Names>(&mut self, table: &T, hash: u64, label: Label)
+        requires keyed { AreKeyed (T.key_at table.now) self.old }
+        requires hashed { number_of (T.key_at table.now) label ≡ Some hash }
+        ensures keyed { AreKeyed (T.key_at table.now) self.new }
+        ensures definitions { (asked : Key) → definitions_at (T.key_at table.now) self.new asked
+            ≡ (if leads_to (T.key_at table.now) label asked then without_last 1 (definitions_at (T.key_at table.now) self.old asked) else definitions_at (T.key_at table.now) self.old asked) }
+        ensures overridden { (asked : Key) → overridden_at (T.key_at table.now) self.new asked ≡ overridden_at (T.key_at table.now) self.old asked }
+        ensures labels { (asked : Key) → label_at (T.key_at table.now) self.new asked
+            ≡ (if is_some (mapped_at (T.key_at table.now) self.new asked) then label_at (T.key_at table.now) self.old asked else None) }
+    {
+        let place = self.place_of(hash);
+        let bucket = &mut self.buckets[place];
+        bucket.take_last(table, hash, label);
+    }
+
+    /// Adds definitions in order, all of them or none.
+    pub fn apply<T: Names>(
+        &mut self,
+        table: &T,
+        definitions: &[Definition],
+    ) -> Result<(), AllocError>
+        requires keyed { AreKeyed (T.key_at table.now) self.old }
+        requires hashed { AreHashed (T.key_at table.now) definitions.now }
+        ensures keyed { AreKeyed (T.key_at table.now) self.new }
+        ensures definitions { OnOk result ((asked : Key) → definitions_at (T.key_at table.now) self.new asked ≡ definitions_at (T.key_at table.now) self.old asked ++ ids_with (T.key_at table.now) definitions.now asked) }
+        ensures err { OnErr result ((asked : Key) → definitions_at (T.key_at table.now) self.new asked ≡ definitions_at (T.key_at table.now) self.old asked) }
+        ensures overridden { (asked : Key) → overridden_at (T.key_at table.now) self.new asked ≡ overridden_at (T.key_at table.now) self.old asked }
+        ensures labels { OnOk result ((asked : Key) → label_at (T.key_at table.now) self.new asked ≡ option_or (label_at (T.key_at table.now) self.old asked) (first_label (T.key_at table.now) definitions.now asked)) }
+        ensures labels_err { OnErr result ((asked : Key) → label_at (T.key_at table.now) self.new asked ≡ label_at (T.key_at table.now) self.old asked) }
+    {
+        for (at, definition) in definitions.iter().enumerate() {
+            if let Err(error) = self.add(table, definition.hash, definition.label, definition.id) {
+                self.undo(table, &definitions[..at]);
+                return Err(error);
+            }
+        }
+        Ok(())
+    }
+
+    /// Takes the definitions back that were added last: as many of each key as there are here.
+    pub fn undo<T: Names>(&mut self, table: &T, definitions: &[Definition])
+        requires keyed { AreKeyed (T.key_at table.now) self.old }
+        requires hashed { AreHashed (T.key_at table.now) definitions.now }
+        ensures keyed { AreKeyed (T.key_at table.now) self.new }
+        ensures definitions { (asked : Key) → definitions_at (T.key_at table.now) self.new asked
+            ≡ without_last (length (ids_with (T.key_at table.now) definitions.now asked)) (definitions_at (T.key_at table.now) self.old asked) }
+        ensures overridden { (asked : Key) → overridden_at (T.key_at table.now) self.new asked ≡ overridden_at (T.key_at table.now) self.old asked }
+        ensures labels { (asked : Key) → label_at (T.key_at table.now) self.new asked
+            ≡ (if is_some (mapped_at (T.key_at table.now) self.new asked) then label_at (T.key_at table.now) self.old asked else None) }
+    {
+        for definition in definitions {
+            self.take_last(table, definition.hash, definition.label);
+        }
+    }
+}

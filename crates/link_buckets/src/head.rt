@@ -1,0 +1,145 @@
+//! What a bucket keeps of a name.
+
+ghost use Rattle.std.specs.Prelude.{◌≡◌, ◌++◌, [], ◌∷◌, ◌-◌, ◌<◌, Some, IsTrue, OnOk, OnErr, length, take, drop, slice_get, option_map, if◌then◌else◌, ◌↔◌};
+
+use crate::label::Label;
+use std::alloc::{AllocError, Global};
+use std::marker::Model;
+
+/// The ids of a name's definitions, in order: the first, and those behind it, of which most names have none. A contract sees
+/// the list of the ids.
+#[derive(Debug, Drop)]
+pub struct Definitions {
+    first: u32,
+    later: Vec<u32>,
+}
+
+impl Model for Definitions {
+    ghost use Rattle.std.specs.Prelude.{List, ℕ, ◌∷◌};
+
+    ghost Value = { List ℕ };
+
+    ghost view = { λ d. d.first ∷ d.later.items };
+}
+
+impl Definitions {
+    ghost use Rattle.link_buckets.specs.Heads.{without_last};
+
+    /// One definition. Takes no memory.
+    pub(crate) fn one(alloc: Global, id: u32) -> Self
+        ensures { result ≡ id ∷ [] }
+    {
+        Definitions {
+            first: id,
+            later: Vec::new(alloc),
+        }
+    }
+
+    /// The first.
+    pub fn first(&self) -> u32
+        ensures { slice_get self.now 0 ≡ Some result }
+    {
+        self.first
+    }
+
+    /// Those behind the first.
+    pub fn later(&self) -> &[u32]
+        ensures { result.now ≡ drop 1 self.now }
+    {
+        self.later.as_slice()
+    }
+
+    /// Adds one at the end.
+    fn push(&mut self, id: u32) -> Result<(), AllocError>
+        ensures ok { OnOk result (self.new ≡ self.old ++ id ∷ []) }
+        ensures err { OnErr result (self.new ≡ self.old) }
+    {
+        self.later.push(id)?;
+        Ok(())
+    }
+
+    /// Takes the last one away, where it isn't the only one, and says whether it did.
+    fn pop_later(&mut self) -> bool
+        ensures several { IsTrue result ↔ (1 < length self.old) }
+        ensures rest { self.new ≡ (if result then without_last 1 self.old else self.old) }
+    {
+        self.later.pop().is_some()
+    }
+}
+
+/// A name that is defined or overridden, by a label that leads to it. Where it is neither any more, the head is not in use.
+#[derive(Debug, Drop)]
+pub struct Head {
+    pub(crate) label: Label,
+    pub(crate) hash: u64,
+    pub(crate) definitions: Option<Definitions>,
+    pub(crate) overridden: Option<u32>,
+}
+
+impl Head {
+    ghost use Rattle.link_buckets.specs.Heads.{ids_of, is_used, mapped_of, without_last};
+
+    /// A label that leads to the name.
+    pub fn label(&self) -> Label
+        ensures { result ≡ self.now.label }
+    {
+        self.label
+    }
+
+    /// Its definitions, where it has some.
+    pub fn definitions(&self) -> Option<&Definitions>
+        ensures { option_map (λ d. d.now) result ≡ self.now.definitions }
+    {
+        self.definitions.as_ref()
+    }
+
+    /// What it was overridden with.
+    pub fn overridden(&self) -> Option<u32>
+        ensures { result ≡ self.now.overridden }
+    {
+        self.overridden
+    }
+
+    /// What it is mapped to.
+    pub fn mapped(&self) -> Option<u32>
+        ensures { result ≡ mapped_of self.now }
+    {
+        match (self.overridden, &self.definitions) {
+            (Some(id), _) => Some(id),
+            (None, Some(definitions)) => Some(definitions.first()),
+            (None, None) => None,
+        }
+    }
+
+    /// Whether it is mapped to something. Another head is not in use, and stands for no name.
+    pub fn is_used(&self) -> bool
+        ensures { result ≡ is_used self.now }
+    {
+        self.mapped().is_some()
+    }
+
+    /// Adds a definition at the end.
+    pub(crate) fn add(&mut self, alloc: Global, id: u32) -> Result<(), AllocError>
+        ensures ok { OnOk result (ids_of self.new ≡ ids_of self.old ++ id ∷ []) }
+        ensures err { OnErr result (ids_of self.new ≡ ids_of self.old) }
+        ensures rest { self.new ≡ record self.old { definitions = self.new.definitions } }
+    {
+        if let Some(definitions) = &mut self.definitions {
+            return definitions.push(id);
+        }
+        self.definitions = Some(Definitions::one(alloc, id));
+        Ok(())
+    }
+
+    /// Takes the last definition away, where it has one.
+    pub(crate) fn remove_last(&mut self)
+        ensures ids { ids_of self.new ≡ without_last 1 (ids_of self.old) }
+        ensures rest { self.new ≡ record self.old { definitions = self.new.definitions } }
+    {
+        if let Some(definitions) = &mut self.definitions {
+            if !definitions.pop_later() {
+                self.definitions = None;
+            }
+        }
+    }
+}

@@ -1,0 +1,23 @@
+//! Which symbols define a name and which one it is mapped to, in buckets of names by their hash numbers. No name is copied:
+//! a bucket keeps hash numbers and labels, and compares bytes through the tables that hold the names.
+#![tactic(auto)]
+
+mod bucket;
+mod buckets;
+mod definition;
+mod head;
+mod label;
+mod laws;
+mod places;
+#[cfg(test)]
+mod tests;
+
+pub use bucket::Bucket;
+pub use buckets::Buckets;
+pub use definition::Definition;
+pub use head::{Definitions, Head};
+pub use label::{Label, Names};
+pub use laws::{
+    buckets_do_not_show, growing_tables_keep_a_bucket, growing_tables_keep_buckets,
+    heads_are_names, tables_go_back,
+};
