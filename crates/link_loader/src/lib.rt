@@ -1,0 +1,15 @@
+//! What is read before names are resolved: the version script, the export list and the forced export names of a link, and from
+//! them each symbol's flags as its file is read.
+#![tactic(auto)]
+
+mod opening;
+mod reading;
+mod scripts;
+#[cfg(test)]
+mod tests;
+mod texts;
+
+pub use opening::{
+    flags_of_definition, flags_of_row, flags_of_script_symbol, flags_of_stub_symbol,
+};
+pub use texts::TextRules;

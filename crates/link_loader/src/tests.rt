@@ -1,0 +1,228 @@
+//! That texts are read where memory is ample, and the flags of a table of symbols. Which ones they are is in the contracts.
+
+use crate::{TextRules, flags_of_row};
+use link_flags::Visibility;
+use link_input::{
+    ElfLike, MachLike, Options, OutputKind, Place, Platform, ProcessedLinkerScript, Scripts,
+    SymbolBinding, SymbolEntry, SymbolKind,
+};
+use link_names::{Name, Seq};
+use link_rules::LinkError;
+use link_script::Plain;
+use std::alloc::{AllocError, Global};
+use std::test::Fail;
+
+/// A text; an empty one is none.
+fn text(alloc: Global, bytes: &[u8]) -> Result<Option<Name>, AllocError> {
+    if bytes.is_empty() {
+        Ok(None)
+    } else {
+        Ok(Some(Name::from_slice(alloc, bytes)?))
+    }
+}
+
+/// The rules of a version script, an export list and a forced name, where there are such.
+fn rules<P: Platform>(
+    alloc: Global,
+    script: &[u8],
+    list: &[u8],
+    forced: &[u8],
+) -> Result<TextRules<P>, LinkError> {
+    let mut options = Options::new(alloc);
+    if let Some(name) = text(alloc, forced)? {
+        options.force_export.push(name)?;
+    }
+    let texts = Scripts {
+        version_script: text(alloc, script)?,
+        export_list: text(alloc, list)?,
+    };
+    TextRules::new(alloc, &options, &texts)
+}
+
+/// An entry of a symbol table, and whether it is one of a shared object.
+type Row = (&'static [u8], SymbolBinding, SymbolKind, Place, bool);
+
+/// The flags of an entry in a shared output.
+fn flags<P: Platform>(alloc: Global, rules: &TextRules<P>, row: Row) -> Result<String, AllocError> {
+    let (name, binding, kind, place, is_dynamic) = row;
+    let entry = SymbolEntry {
+        name: Name::from_slice(alloc, name)?,
+        version: None,
+        is_default: true,
+        binding,
+        visibility: Visibility::Default,
+        kind,
+        size: 0,
+        place,
+    };
+    let output = OutputKind::SharedObject;
+    let flags = flags_of_row(rules, output, &Plain, is_dynamic, &entry.row());
+    format!(in alloc; "{flags}")
+}
+
+const SCRIPT: &[u8] = b"A { global: foo; local: h*; };";
+
+const ROWS: &[(Row, &str, &str)] = &[
+    (
+        (
+            b"foo",
+            SymbolBinding::Global,
+            SymbolKind::Func,
+            Place::Section(1),
+            false,
+        ),
+        "",
+        "",
+    ),
+    (
+        (
+            b"bar",
+            SymbolBinding::Global,
+            SymbolKind::Plain,
+            Place::Absolute,
+            false,
+        ),
+        "ABSOLUTE",
+        "ABSOLUTE | NON_INTERPOSABLE",
+    ),
+    (
+        (
+            b"here",
+            SymbolBinding::Weak,
+            SymbolKind::Ifunc,
+            Place::Section(2),
+            false,
+        ),
+        "IFUNC | NON_INTERPOSABLE | DOWNGRADE_TO_LOCAL",
+        "IFUNC | NON_INTERPOSABLE | DOWNGRADE_TO_LOCAL",
+    ),
+    (
+        (
+            b"here",
+            SymbolBinding::Global,
+            SymbolKind::Tls,
+            Place::Section(2),
+            false,
+        ),
+        "DOWNGRADE_TO_LOCAL",
+        "NON_INTERPOSABLE | DOWNGRADE_TO_LOCAL",
+    ),
+    (
+        (
+            b"here",
+            SymbolBinding::Global,
+            SymbolKind::Func,
+            Place::Undefined,
+            false,
+        ),
+        "ABSOLUTE",
+        "ABSOLUTE",
+    ),
+    (
+        (
+            b"here",
+            SymbolBinding::Local,
+            SymbolKind::Plain,
+            Place::Section(0),
+            false,
+        ),
+        "NON_INTERPOSABLE",
+        "NON_INTERPOSABLE",
+    ),
+    (
+        (
+            b"here",
+            SymbolBinding::Global,
+            SymbolKind::Ifunc,
+            Place::Section(0),
+            true,
+        ),
+        "DYNAMIC | DYNAMIC_FUNCTION",
+        "DYNAMIC | DYNAMIC_FUNCTION",
+    ),
+];
+
+#[test]
+fn symbols_have_flags_as_their_file_is_read(rt: HostRuntime) -> Result<(), Fail> {
+    let alloc = rt.alloc();
+    let elf = rules::<ElfLike>(alloc, SCRIPT, b"", b"foo")
+        .ok()
+        .ok_or("rules")?;
+    let mach = rules::<MachLike>(alloc, SCRIPT, b"foo\n", b"")
+        .ok()
+        .ok_or("rules")?;
+    for &(row, want, want_mach) in ROWS {
+        let got = flags(alloc, &elf, row)?;
+        let got_mach = flags(alloc, &mach, row)?;
+        assert!(rt; got.as_str() == want && got_mach.as_str() == want_mach);
+    }
+    Ok(())
+}
+
+/// A linker script with this version text, where there is one.
+fn linker_script(alloc: Global, version: &[u8]) -> Result<ProcessedLinkerScript, AllocError> {
+    Ok(ProcessedLinkerScript {
+        input: Name::from_slice(alloc, b"x.ld")?,
+        entry: None,
+        version: text(alloc, version)?,
+        symbol_defs: Seq::new(alloc),
+    })
+}
+
+/// Reads the texts, and the version text of the linker script at place 4; tells whether a version script is taken.
+fn read(
+    alloc: Global,
+    script: &[u8],
+    list: &[u8],
+    forced: &[u8],
+    version: &[u8],
+) -> Result<bool, LinkError> {
+    let mut rules = rules::<ElfLike>(alloc, script, list, forced)?;
+    let scripts = [linker_script(alloc, version)?];
+    rules.take_scripts(alloc, false, 4, &scripts)?;
+    Ok(rules.is_taken())
+}
+
+/// The cause of a refusal, as text.
+fn cause(alloc: Global, error: &LinkError) -> Result<String, AllocError> {
+    match error {
+        LinkError::Script { origin, error } => format!(in alloc; "{origin:?}: {error}"),
+        LinkError::MultipleVersionScripts(place) => format!(in alloc; "another at {place}"),
+        _ => format!(in alloc; "another cause"),
+    }
+}
+
+/// What comes of the texts.
+fn outcome(
+    alloc: Global,
+    script: &[u8],
+    list: &[u8],
+    forced: &[u8],
+    version: &[u8],
+) -> Result<String, AllocError> {
+    match read(alloc, script, list, forced, version) {
+        Ok(taken) => format!(in alloc; "taken: {taken}"),
+        Err(error) => cause(alloc, &error),
+    }
+}
+
+const TEXTS: &[(&[u8], &[u8], &[u8], &[u8], &str)] = &[
+    (b"", b"", b"", b"", "taken: false"),
+    (SCRIPT, b"{ foo; };", b"bar", b"", "taken: true"),
+    (b"", b"", b"", b"{ global: foo; local: *; };", "taken: true"),
+    (b"A {", b"{", b"", b"", "VersionScript: Syntax error at 3"),
+    (b"", b"{ foo", b"", b"", "ExportList: Syntax error at 2"),
+    (b"", b"", b"}", b"", "ForcedExport(0): Syntax error at 0"),
+    (SCRIPT, b"", b"", b"A { };", "another at 4"),
+    (b"", b"", b"", b"A", "LinkerScript(4): Syntax error at 1"),
+];
+
+#[test]
+fn texts_are_read_and_refused(rt: HostRuntime) -> Result<(), Fail> {
+    let alloc = rt.alloc();
+    for &(script, list, forced, version, want) in TEXTS {
+        let got = outcome(alloc, script, list, forced, version)?;
+        assert_eq!(rt; got.as_str(), want);
+    }
+    Ok(())
+}
