@@ -1,6 +1,6 @@
 //! One file of a group.
 
-ghost use Rattle.std.specs.Prelude.{◌≡◌, Some, option_map};
+ghost use Rattle.std.specs.Prelude.{◌≡◌, ◌<◌, ◌^◌, Some, option_map};
 ghost use Rattle.link_ids.specs.Span.{IsInside, offset_in};
 ghost use Rattle.link_input.specs.InputFiles.{is_optional_file, is_shared_file, symbol_count};
 ghost use Rattle.link_input.specs.Symbols.{name_at, section_at, strength_at, version_at};
@@ -11,7 +11,7 @@ use crate::sequenced::{
     SequencedInputObject, SequencedLinkerScript, SequencedStubLibrary, SyntheticSymbols,
 };
 use link_flags::SymbolStrength;
-use link_ids::{InputSectionId, SymbolId};
+use link_ids::{InputSectionId, SymbolId, SymbolIdRange};
 use link_input::{Platform, Prelude};
 use link_names::NameView;
 use std::fmt;
@@ -26,9 +26,23 @@ pub enum SequencedInput<'a, P: Platform> {
     SyntheticSymbols(&'a SyntheticSymbols),
 }
 
-impl<P: Platform> SequencedInput<'_, P> {
+impl<'a, P: Platform> SequencedInput<'a, P> {
+    /// The ids of its symbols.
+    pub fn symbol_id_range(&self) -> SymbolIdRange
+        requires fits { (sequenced_file self.now).symbols.len < 2 ^ 32 }
+        ensures { result ≡ (sequenced_file self.now).symbols }
+    {
+        match self {
+            SequencedInput::Prelude(prelude) => prelude.symbol_id_range(),
+            SequencedInput::Object(object) => object.symbol_id_range,
+            SequencedInput::LinkerScript(script) => script.symbol_id_range,
+            SequencedInput::StubLibrary(stub) => stub.symbol_id_range,
+            SequencedInput::SyntheticSymbols(synthetic) => synthetic.symbol_id_range,
+        }
+    }
+
     /// The name of a symbol of the file.
-    pub fn symbol_name(&self, id: SymbolId) -> NameView<'_>
+    pub fn symbol_name(&self, id: SymbolId) -> NameView<'a>
         requires table { (sequenced_file self.now).symbols.len ≡ symbol_count (sequenced_file self.now).file }
         requires inside { IsInside (sequenced_file self.now).symbols id }
         ensures { name_at (sequenced_file self.now).file (offset_in (sequenced_file self.now).symbols id) ≡ Some result }
@@ -45,7 +59,7 @@ impl<P: Platform> SequencedInput<'_, P> {
     }
 
     /// The version of a symbol of the file, where it has one: only objects' symbols have.
-    pub fn symbol_version_debug(&self, id: SymbolId) -> Option<NameView<'_>>
+    pub fn symbol_version_debug(&self, id: SymbolId) -> Option<NameView<'a>>
         requires table { AreIdsOf (sequenced_file self.now).file (sequenced_file self.now).symbols.len }
         requires inside { IsInside (sequenced_file self.now).symbols id }
         ensures { result ≡ version_at (sequenced_file self.now).file (offset_in (sequenced_file self.now).symbols id) }

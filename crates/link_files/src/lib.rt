@@ -1,0 +1,10 @@
+//! The files of a link in their groups, found by the ids of their symbols.
+#![tactic(auto)]
+
+mod files;
+mod search;
+mod starts;
+#[cfg(test)]
+mod tests;
+
+pub use files::Files;
