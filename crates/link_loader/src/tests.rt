@@ -39,123 +39,43 @@ fn rules<P: Platform>(
     TextRules::new(alloc, &options, &texts)
 }
 
-/// An entry of a symbol table, and whether it is one of a shared object.
-type Row = (&'static [u8], SymbolBinding, SymbolKind, Place, bool);
-
-/// The flags of an entry in a shared output.
-fn flags<P: Platform>(alloc: Global, rules: &TextRules<P>, row: Row) -> Result<String, AllocError> {
-    let (name, binding, kind, place, is_dynamic) = row;
+/// The flags of a function of this name in a shared output.
+fn flags<P: Platform>(
+    alloc: Global,
+    rules: &TextRules<P>,
+    name: &[u8],
+) -> Result<String, AllocError> {
     let entry = SymbolEntry {
         name: Name::from_slice(alloc, name)?,
         version: None,
         is_default: true,
-        binding,
+        binding: SymbolBinding::Global,
         visibility: Visibility::Default,
-        kind,
+        kind: SymbolKind::Func,
         size: 0,
-        place,
+        place: Place::Section(1),
     };
     let output = OutputKind::SharedObject;
-    let flags = flags_of_row(rules, output, &Plain, is_dynamic, &entry.row());
+    let flags = flags_of_row(rules, output, &Plain, false, &entry.row());
     format!(in alloc; "{flags}")
 }
 
 const SCRIPT: &[u8] = b"A { global: foo; local: h*; };";
 
-const ROWS: &[(Row, &str, &str)] = &[
-    (
-        (
-            b"foo",
-            SymbolBinding::Global,
-            SymbolKind::Func,
-            Place::Section(1),
-            false,
-        ),
-        "",
-        "",
-    ),
-    (
-        (
-            b"bar",
-            SymbolBinding::Global,
-            SymbolKind::Plain,
-            Place::Absolute,
-            false,
-        ),
-        "ABSOLUTE",
-        "ABSOLUTE | NON_INTERPOSABLE",
-    ),
-    (
-        (
-            b"here",
-            SymbolBinding::Weak,
-            SymbolKind::Ifunc,
-            Place::Section(2),
-            false,
-        ),
-        "IFUNC | NON_INTERPOSABLE | DOWNGRADE_TO_LOCAL",
-        "IFUNC | NON_INTERPOSABLE | DOWNGRADE_TO_LOCAL",
-    ),
-    (
-        (
-            b"here",
-            SymbolBinding::Global,
-            SymbolKind::Tls,
-            Place::Section(2),
-            false,
-        ),
-        "DOWNGRADE_TO_LOCAL",
-        "NON_INTERPOSABLE | DOWNGRADE_TO_LOCAL",
-    ),
-    (
-        (
-            b"here",
-            SymbolBinding::Global,
-            SymbolKind::Func,
-            Place::Undefined,
-            false,
-        ),
-        "ABSOLUTE",
-        "ABSOLUTE",
-    ),
-    (
-        (
-            b"here",
-            SymbolBinding::Local,
-            SymbolKind::Plain,
-            Place::Section(0),
-            false,
-        ),
-        "NON_INTERPOSABLE",
-        "NON_INTERPOSABLE",
-    ),
-    (
-        (
-            b"here",
-            SymbolBinding::Global,
-            SymbolKind::Ifunc,
-            Place::Section(0),
-            true,
-        ),
-        "DYNAMIC | DYNAMIC_FUNCTION",
-        "DYNAMIC | DYNAMIC_FUNCTION",
-    ),
-];
+/// The flags of functions by the script and a list that has foo alone.
+fn flags_by_list(alloc: Global) -> Result<String, Fail> {
+    let rules = rules::<MachLike>(alloc, SCRIPT, b"foo\n", b"")
+        .ok()
+        .ok_or("rules")?;
+    let listed = flags(alloc, &rules, b"foo")?;
+    let local = flags(alloc, &rules, b"here")?;
+    Ok(format!(in alloc; "{listed}; {local}")?)
+}
 
 #[test]
 fn symbols_have_flags_as_their_file_is_read(rt: HostRuntime) -> Result<(), Fail> {
-    let alloc = rt.alloc();
-    let elf = rules::<ElfLike>(alloc, SCRIPT, b"", b"foo")
-        .ok()
-        .ok_or("rules")?;
-    let mach = rules::<MachLike>(alloc, SCRIPT, b"foo\n", b"")
-        .ok()
-        .ok_or("rules")?;
-    for &(row, want, want_mach) in ROWS {
-        let got = flags(alloc, &elf, row)?;
-        let got_mach = flags(alloc, &mach, row)?;
-        assert!(rt; got.as_str() == want && got_mach.as_str() == want_mach);
-    }
+    let got = flags_by_list(rt.alloc())?;
+    assert_eq!(rt; got.as_str(), "; NON_INTERPOSABLE | DOWNGRADE_TO_LOCAL");
     Ok(())
 }
 
