@@ -38,7 +38,7 @@ impl<P: Platform> Files<P> {
     ghost use Rattle.link_groups.specs.SequencedInputs.{sequenced_file};
     ghost use Rattle.link_files.specs.GroupFiles.{AreGroupsOfLink, IsFileOf, IsIn, file_at, symbols_in};
 
-    /// No files. `options` are those of the link.
+    /// No files. Takes no memory.
     pub fn new(alloc: Global) -> Self
         ensures { result ≡ [] }
     {
