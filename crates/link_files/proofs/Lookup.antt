@@ -20,12 +20,14 @@ use Rattle.link_files.specs.GroupFiles.{AreFound, IsFileOf, file_at, symbols_in}
 use Rattle.link_files.proofs.Places.{length-all-starts, start-file}
 use Rattle.link_files.proofs.Numbers.{held-at, next-start, symbol-there}
 
+-- as many as there are, or more, are all
 take-all : {A : Type 0} (n : ℕ) (xs : List A) → length xs ≤ n → take n xs ≡ xs
 take-all zero [] le = refl
 take-all (suc n) [] le = refl
 take-all zero (x ∷ xs) le = absurd (omega arith)
 take-all (suc n) (x ∷ xs) le = ap (λ ys. x ∷ ys) (take-all n xs (omega arith))
 
+-- where nothing stands, the list has ended
 none-past : {A : Type 0} (xs : List A) (i : ℕ) → slice_get xs i ≡ None → length xs ≤ i
 none-past [] i h = omega arith
 none-past (x ∷ xs) zero h = cc
@@ -33,9 +35,11 @@ none-past (x ∷ xs) (suc i) h = let rest = none-past xs i h in omega arith
 
 -- of files one after another, the one that begins last before a symbol has it
 module _ {P : Type 0} (groups : List (Group P)) (fs : List InputFile) (places : HavePlaces groups) (all : flat_map files_of groups ≡ sequenced 0 0 fs) where
+  -- the symbols are those of the files
   symbols : symbols_in groups ≡ symbols_of 0 fs
   symbols = ap (λ (l : List SequencedFile). symbols_of 0 (map (λ f. f.file) l)) all ∙ ap (symbols_of 0) (file-sequenced 0 0 fs)
 
+  -- each file has a start
   starts-of-files : length (starts_of groups) ≡ length fs
   starts-of-files = length-all-starts groups ∙ ap (λ (l : List SequencedFile). length l) all ∙ length-sequenced 0 0 fs
 
@@ -47,6 +51,7 @@ module _ {P : Type 0} (groups : List (Group P)) (fs : List InputFile) (places : 
       let h = start-at 0 0 0 fs k s.0 at in
       omega (arith, h, s.1.1.1)
 
+  -- the last file that begins at a symbol or before it has the symbol
   pub has-symbol : (id k : ℕ) → IsLastFrom (starts_of groups) id k → id < length (symbols_of 0 fs) → (x : FileStart) → slice_get (starts_of groups) k ≡ Some x → x.start ≤ id → IsFileOf groups id x.id
   has-symbol id k last lt x is from =
       let s = start-file groups k x places is in
@@ -96,6 +101,7 @@ module _ {P : Type 0} (groups : List (Group P)) (fs : List InputFile) (places : 
       let all-taken : length (symbols_of 0 (take (suc k) fs)) ≡ length (symbols_of 0 fs) = ap (λ (l : List InputFile). length (symbols_of 0 l)) (take-all (suc k) fs few) in
       (f, (s.1.1.0, omega (arith, start-at 0 0 0 fs k f at, whole, next-start 0 fs k f.file own, all-taken)))
 
+-- the same, of the groups of batches: before the first there is no symbol
 of-batches : {P : Type 0} (groups : List (Group P)) (options : Options) (batches : List Batch) → AreGroupsOf options batches groups → (id k : ℕ) → IsLastFrom (starts_of groups) id k → id < length (symbols_in groups)
     → (x : FileStart) → slice_get (starts_of groups) k ≡ Some x → x.start ≤ id → IsFileOf groups id x.id
 of-batches {P} groups options [] none id k last lt x is from =
@@ -146,6 +152,7 @@ none-held {P} groups starts found none = of-none groups found.held.0 found.held.
         let several : 0 < length fs = omega arith in
         absurd (omega (arith, several, starts-of-files gs fs h.places h.files, n))
 
+-- the symbols of files are those that are counted
 symbols-counted : (n : ℕ) (fs : List InputFile) → length (symbols_of n fs) ≡ total symbol_count fs
 symbols-counted n [] = refl
 symbols-counted n (f ∷ fs) = omega (arith, length-append (file_symbols n f) (symbols_of (n + object_count f) fs), own-symbols n f, symbols-counted (n + object_count f) fs)

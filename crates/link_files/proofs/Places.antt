@@ -24,12 +24,13 @@ found_none {P} groups starts none no_start = record {
   found = no_start ∙ sym (ap (λ (gs : List (Group P)). starts_of gs) none);
 }
 
--- the element of one list at a place, in what stands behind another list
+-- an element of the first of two lists stands at its place
 pub get-left : {A : Type 0} (xs ys : List A) (i : ℕ) (x : A) → slice_get xs i ≡ Some x → slice_get (xs ++ ys) i ≡ Some x
 get-left [] ys i x h = cc
 get-left (z ∷ zs) ys zero x h = h
 get-left (z ∷ zs) ys (suc i) x h = get-left zs ys i x h
 
+-- one of the second stands behind all of the first
 pub get-right : {A : Type 0} (xs ys : List A) (i : ℕ) → slice_get (xs ++ ys) (length xs + i) ≡ slice_get ys i
 get-right [] ys i = let e : 0 + i ≡ i = omega arith in ap (slice_get ys) e
 get-right (z ∷ zs) ys i =
@@ -85,10 +86,12 @@ pub record IsInGroup {P : Type 0} (groups : List (Group P)) (k : ℕ) (x : FileS
   pub found : IsStart (files_of group) (file_ids group) place x
   pub file : slice_get (flat_map files_of groups) k ≡ Some found.file
 
+-- lists that are mapped from one list are as long
 same-lengths : {A B C : Type 0} (f : A → B) (g : A → C) (xs : List A) → length (map f xs) ≡ length (map g xs)
 same-lengths f g [] = refl
 same-lengths f g (x ∷ xs) = ap suc (same-lengths f g xs)
 
+-- as many starts as files, in a group
 length-starts : {P : Type 0} (g : Group P) → length (group_starts g) ≡ length (files_of g)
 length-starts (group.Prelude symbols) = refl
 length-starts {P} (group.Objects objects) = same-lengths (λ (o : SequencedInputObject P). start_of o.symbol_id_range o.file_id) (λ (o : SequencedInputObject P). object_file o) objects
