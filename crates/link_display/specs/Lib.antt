@@ -1,0 +1,2 @@
+pub mod SymbolText
+pub mod DebugText
