@@ -1,1 +1,3 @@
 pub mod RustForm
+pub mod Mangled
+pub mod Unshared

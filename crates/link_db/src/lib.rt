@@ -2,6 +2,8 @@
 #![tactic(auto)]
 
 mod key;
+mod mangled;
+mod picking;
 mod rust_form;
 
 pub use key::SymbolKey;
