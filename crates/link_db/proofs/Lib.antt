@@ -1,2 +1,3 @@
 pub mod Freed
+pub mod Ids
 pub mod Walked
