@@ -1,3 +1,5 @@
 pub mod Places
 pub mod Numbers
+pub mod Numbered
 pub mod Lookup
+pub mod Batches

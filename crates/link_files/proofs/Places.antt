@@ -4,7 +4,6 @@ use Rattle.std.specs.Prelude.{slice_get, option_map, option_and_then}
 use Rattle.std.specs.List.{flat_map}
 use Rattle.std.proofs.lemmas.Option.{same_Some, slice_get-map}
 use Rattle.link_ids.specs.FilePlace.{FilePlace}
-use Rattle.link_input.specs.Defaults.{default_options}
 use Rattle.link_input.specs.SequencedFiles.{SequencedFile}
 use Rattle.link_groups.specs.declared.group.Group.{Group}
 use Rattle.link_groups.specs.declared.group.Group.TheVariants as group
@@ -15,14 +14,7 @@ use Rattle.link_groups.specs.Groups.{files_of, file_ids, object_file, script_fil
 use Rattle.link_groups.specs.FileIds.{HavePlaces}
 use Rattle.link_files.specs.declared.starts.FileStart.{FileStart}
 use Rattle.link_files.specs.Starts.{start_of, group_starts, starts_of}
-use Rattle.link_files.specs.GroupFiles.{AreFound, file_at}
-
--- no groups are those of no batches
-pub found_none : {P : Type 0} (groups : List (Group P)) (starts : List FileStart) → groups ≡ [] → starts ≡ [] → AreFound groups starts
-found_none {P} groups starts none no_start = record {
-  held = (default_options, ([], none));
-  found = no_start ∙ sym (ap (λ (gs : List (Group P)). starts_of gs) none);
-}
+use Rattle.link_files.specs.GroupFiles.{file_at}
 
 -- an element of the first of two lists stands at its place
 pub get-left : {A : Type 0} (xs ys : List A) (i : ℕ) (x : A) → slice_get xs i ≡ Some x → slice_get (xs ++ ys) i ≡ Some x

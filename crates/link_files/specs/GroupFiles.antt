@@ -4,20 +4,19 @@ use Rattle.std.specs.List.{flat_map}
 use Rattle.link_ids.specs.FilePlace.{FilePlace}
 use Rattle.link_ids.specs.Span.{IsInside, offset_in}
 use Rattle.link_input.specs.declared.options.Options.{Options}
-use Rattle.link_input.specs.InputFiles.{Batch, symbol_count}
+use Rattle.link_input.specs.InputFiles.{Batch}
 use Rattle.link_input.specs.SequencedFiles.{SequencedFile}
 use Rattle.link_input.specs.Symbols.{Symbol, file_symbols, symbols_of}
 use Rattle.link_groups.specs.declared.group.Group.{Group}
+use Rattle.link_groups.specs.Asked.{AreIdsOf}
 use Rattle.link_groups.specs.Groups.{files_of}
 use Rattle.link_groups.specs.Held.{AreGroupsOf}
-use Rattle.link_files.specs.declared.starts.FileStart.{FileStart}
-use Rattle.link_files.specs.Starts.{starts_of}
 
 -- groups of some batches of a link
 abbrev pub AreGroupsOfLink : {P : Type 0} → List (Group P) → Type 0
 AreGroupsOfLink {P} groups = (options : Options) × ((batches : List Batch) × AreGroupsOf options batches groups)
 
--- the symbols of the files of groups: a symbol's id is its place here
+-- the symbols that stand in the tables of the files of groups: the id of each is its place here
 abbrev pub symbols_in : {P : Type 0} → List (Group P) → List Symbol
 symbols_in groups = symbols_of 0 (map (λ f. f.file) (flat_map files_of groups))
 
@@ -25,18 +24,13 @@ symbols_in groups = symbols_of 0 (map (λ f. f.file) (flat_map files_of groups))
 abbrev pub file_at : {P : Type 0} → List (Group P) → FilePlace → Option SequencedFile
 file_at groups id = option_and_then (λ g. slice_get (files_of g) id.file) (slice_get groups id.group)
 
--- the symbol is one of the file: it stands there at its offset, whatever number of objects comes before
+-- the symbol is one of the file: where it stands in a table, it stands in the file's at its offset, whatever number of objects comes before
 pub record IsIn {P : Type 0} (groups : List (Group P)) (symbol : ℕ) (file : SequencedFile) : Type 0 where
   pub inside : IsInside file.symbols symbol
-  pub whole : file.symbols.len ≡ symbol_count file.file
+  pub ids : AreIdsOf file.file file.symbols.len
   pub before : ℕ
   pub same : slice_get (symbols_in groups) symbol ≡ slice_get (file_symbols before file.file) (offset_in file.symbols symbol)
 
 -- the file with this id has the symbol
 abbrev pub IsFileOf : {P : Type 0} → List (Group P) → ℕ → FilePlace → Type 0
 IsFileOf groups symbol id = (file : SequencedFile) × ((file_at groups id ≡ Some file) × IsIn groups symbol file)
-
--- the groups are those of some batches, and each of their files begins where this says
-pub record AreFound {P : Type 0} (groups : List (Group P)) (starts : List FileStart) : Type 0 where
-  pub held : AreGroupsOfLink groups
-  pub found : starts ≡ starts_of groups

@@ -1,2 +1,4 @@
 pub mod Starts
 pub mod GroupFiles
+pub mod HeldFiles
+pub mod Numbered

@@ -4,6 +4,7 @@
 mod files;
 mod search;
 mod starts;
+mod symbol_queries;
 #[cfg(test)]
 mod tests;
 

@@ -1,5 +1,5 @@
-use Rattle.link_files.proofs.Places.{found_none}
+use Rattle.link_files.proofs.Batches.{held-none}
 use Rattle.link_files.proofs.files.Files.new.Goals as goal
 
 pub invariant_of-result : goal.invariant_of-result
-invariant_of-result g c = found_none c.new.result.items c.new-2.result.items c.new.ensures.items c.new-2.ensures.items
+invariant_of-result g c = held-none c.new.result.items c.new-2.result.items c.new-3.result.items c.new.ensures.items c.new-2.ensures.items c.new-3.ensures.items
