@@ -306,6 +306,11 @@ reads_absent {X} names heads test key o read f is_key place none same asked = rw
     by true e = subst (λ (k : Key). read (head_of names heads k) ≡ f (read (head_of names heads k))) (keys_equal key asked e) (ap read absent ∙ same ∙ ap (λ (h : Option Head). f (read h)) (sym absent))
     by false e = refl
 
+-- a key that has no head is mapped to nothing
+pub never_mapped : (names : Label → Option Key) (heads : List Head) (key : Key) (o : Option ℕ) → o ≡ place_from (is_head names key) 0 heads → ((i : ℕ) → o ≡ Some i → ⊥) → is_some (mapped_read (head_of names heads key)) ≡ true → ⊥
+never_mapped names heads key None place none mapped = let absent : head_of names heads key ≡ None = none_found (is_head names key) heads None place refl in let no = rw absent at mapped in cc
+never_mapped names heads key (Some i) place none mapped = none i refl
+
 -- what a key that has no head reads, where nothing changes
 pub reads_none : {X : Type 0} (names : Label → Option Key) (heads : List Head) (key : Key) (o : Option ℕ) (read : Option Head → X) (f : X → X) → o ≡ place_from (is_head names key) 0 heads → ((i : ℕ) → o ≡ Some i → ⊥) → read None ≡ f (read None)
     → (asked : Key) → read (head_of names heads asked) ≡ (if same_key key asked then f (read (head_of names heads asked)) else read (head_of names heads asked))

@@ -8,3 +8,4 @@ pub mod Growing
 pub mod Walking
 pub mod Returning
 pub mod Scanning
+pub mod Releasing

@@ -1,5 +1,5 @@
 -- The heads of a bucket.
-use Rattle.std.specs.Prelude.{◌≡◌, ◌-◌, ◌&&◌, ℕ, Bool, IsTrue, List, [], Option, Some, find, is_some, length, map, slice_get, take, unwrap_or}
+use Rattle.std.specs.Prelude.{◌≡◌, ◌-◌, ◌&&◌, ℕ, Bool, IsTrue, List, [], Option, Some, find, is_some, length, map, option_map, slice_get, take, unwrap_or}
 use Rattle.std.specs.Option.{option_or}
 use Rattle.link_buckets.specs.declared.label.Label.{Label}
 use Rattle.link_buckets.specs.declared.head.Head.{Head}
@@ -16,6 +16,10 @@ mapped_of h = option_or h.overridden (slice_get (ids_of h) 0)
 -- ids but for the last n
 abbrev pub without_last : ℕ → List ℕ → List ℕ
 without_last n ids = take (length ids - n) ids
+
+-- the head with its first definition alone
+abbrev pub first_alone : Head → Head
+first_alone h = record h { definitions = option_map (take 1) h.definitions }
 
 abbrev pub hashes_of : List Head → List ℕ
 hashes_of heads = map (λ h. h.hash) heads

@@ -5,7 +5,7 @@ ghost use Rattle.link_buckets.specs.Heads.{hashes_of};
 ghost use Rattle.link_buckets.specs.Noted.{places_at};
 ghost use Rattle.link_buckets.specs.Places.{places_of};
 
-use crate::head::{Definitions, Head};
+use crate::head::{Definitions, Head, release_all};
 use crate::label::{Label, Names};
 use crate::places::Places;
 use std::alloc::{AllocError, Global};
@@ -21,12 +21,12 @@ pub struct Bucket {
 }
 
 impl Bucket {
-    ghost use Rattle.std.specs.Prelude.{◌++◌, [], ◌∷◌, ◌⊎◌, Option, None, Some, is_some, IsTrue, IfOk, OnOk, OnErr, false, length, take, slice_get, option_map, if◌then◌else◌};
+    ghost use Rattle.std.specs.Prelude.{◌++◌, [], ◌∷◌, ◌⊎◌, Option, None, Some, is_some, IsTrue, IfOk, OnOk, OnErr, false, length, map, take, slice_get, option_map, if◌then◌else◌};
     ghost use Rattle.std.specs.Option.{option_map_or, option_or};
     ghost use Rattle.link_names.specs.NameHash.{fnv_1a};
     ghost use Rattle.link_buckets.specs.declared.label.Label.{Label};
     ghost use Rattle.link_buckets.specs.Keys.{Key, key_of, leads_to, number_of, same_key};
-    ghost use Rattle.link_buckets.specs.Heads.{head_of, is_head, is_labelled, without_last};
+    ghost use Rattle.link_buckets.specs.Heads.{first_alone, head_of, is_head, is_labelled, without_last};
     ghost use Rattle.link_buckets.specs.Places.{place_from};
     ghost use Rattle.link_buckets.specs.Bucket.{IsKeyed, definitions_in, hashes_in, heads_in, label_in, mapped_in, overridden_in};
 
@@ -256,6 +256,31 @@ impl Bucket {
         }
     }
 
+    /// Overrides what the name and version is mapped to, where it is mapped to something. Takes no memory, and can't fail.
+    pub fn remap<T: Names>(
+        &mut self,
+        table: &T,
+        hash: u64,
+        name: &[u8],
+        version: Option<&[u8]>,
+        id: u32,
+    )
+        requires keyed { IsKeyed (T.key_at table.now) self.old }
+        requires hashed { hash ≡ fnv_1a name.now }
+        requires mapped { IsTrue (is_some (mapped_in (T.key_at table.now) self.old (key_of name.now version))) }
+        ensures keyed { IsKeyed (T.key_at table.now) self.new }
+        ensures hashes { hashes_in self.new ≡ hashes_in self.old }
+        ensures overridden { (asked : Key) → overridden_in (T.key_at table.now) self.new asked
+            ≡ (if same_key (key_of name.now version.entry) asked then Some id else overridden_in (T.key_at table.now) self.old asked) }
+        ensures definitions { (asked : Key) → definitions_in (T.key_at table.now) self.new asked ≡ definitions_in (T.key_at table.now) self.old asked }
+        ensures labels { (asked : Key) → label_in (T.key_at table.now) self.new asked ≡ label_in (T.key_at table.now) self.old asked }
+    {
+        if let Some(place) = self.place_of(table, hash, name, version) {
+            let head = &mut self.heads[place];
+            head.overridden = Some(id);
+        }
+    }
+
     /// Takes away what the name and version is overridden with.
     pub fn restore<T: Names>(&mut self, table: &T, hash: u64, name: &[u8], version: Option<&[u8]>)
         requires keyed { IsKeyed (T.key_at table.now) self.old }
@@ -314,5 +339,17 @@ impl Bucket {
             let head = &mut self.heads[place];
             head.remove_last();
         }
+    }
+
+    /// Gives up the definitions of each name behind its first, and their memory.
+    pub fn release_later(&mut self)
+        ensures heads { heads_in self.new ≡ map first_alone (heads_in self.old) }
+        ensures keyed { (names : Label → Option Key) → IsKeyed names self.old → IsKeyed names self.new }
+        ensures hashes { hashes_in self.new ≡ hashes_in self.old }
+        ensures definitions { (names : Label → Option Key) (asked : Key) → definitions_in names self.new asked ≡ take 1 (definitions_in names self.old asked) }
+        ensures overridden { (names : Label → Option Key) (asked : Key) → overridden_in names self.new asked ≡ overridden_in names self.old asked }
+        ensures labels { (names : Label → Option Key) (asked : Key) → label_in names self.new asked ≡ label_in names self.old asked }
+    {
+        release_all(self.heads.as_mut_slice(), self.alloc);
     }
 }

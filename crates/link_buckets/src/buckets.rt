@@ -1,6 +1,8 @@
 //! The buckets of names.
 
-ghost use Rattle.std.specs.Prelude.{◌<◌, vec_len};
+ghost use Rattle.std.specs.Prelude.{◌<◌, ◌≡◌, map, vec_len};
+ghost use Rattle.link_buckets.specs.Bucket.{heads_in};
+ghost use Rattle.link_buckets.specs.Heads.{first_alone};
 
 use crate::bucket::Bucket;
 use crate::definition::Definition;
@@ -16,7 +18,7 @@ pub struct Buckets {
 }
 
 impl Buckets {
-    ghost use Rattle.std.specs.Prelude.{◌≡◌, ◌++◌, [], ◌∷◌, ◌%◌, ℕ, Option, None, Some, is_some, IsTrue, IfOk, OnOk, OnErr, length, if◌then◌else◌};
+    ghost use Rattle.std.specs.Prelude.{◌≡◌, ◌++◌, [], ◌∷◌, ◌%◌, ℕ, Option, None, Some, is_some, IsTrue, IfOk, OnOk, OnErr, length, take, if◌then◌else◌};
     ghost use Rattle.std.specs.Option.{option_map_or, option_or};
     ghost use Rattle.link_names.specs.NameHash.{fnv_1a};
     ghost use Rattle.link_buckets.specs.declared.label.Label.{Label};
@@ -134,6 +136,29 @@ impl Buckets {
         bucket.override_name(table, hash, label, id)
     }
 
+    /// Overrides what the name and version is mapped to, where it is mapped to something. Takes no memory, and can't fail.
+    pub fn remap<T: Names>(
+        &mut self,
+        table: &T,
+        hash: u64,
+        name: &[u8],
+        version: Option<&[u8]>,
+        id: u32,
+    )
+        requires keyed { AreKeyed (T.key_at table.now) self.old }
+        requires hashed { hash ≡ fnv_1a name.now }
+        requires mapped { IsTrue (is_some (mapped_at (T.key_at table.now) self.old (key_of name.now version))) }
+        ensures keyed { AreKeyed (T.key_at table.now) self.new }
+        ensures overridden { (asked : Key) → overridden_at (T.key_at table.now) self.new asked
+            ≡ (if same_key (key_of name.now version.entry) asked then Some id else overridden_at (T.key_at table.now) self.old asked) }
+        ensures definitions { (asked : Key) → definitions_at (T.key_at table.now) self.new asked ≡ definitions_at (T.key_at table.now) self.old asked }
+        ensures labels { (asked : Key) → label_at (T.key_at table.now) self.new asked ≡ label_at (T.key_at table.now) self.old asked }
+    {
+        let place = self.place_of(hash);
+        let bucket = &mut self.buckets[place];
+        bucket.remap(table, hash, name, version, id);
+    }
+
     /// Takes away what the name and version is overridden with.
     pub fn restore<T: Names>(&mut self, table: &T, hash: u64, name: &[u8], version: Option<&[u8]>)
         requires keyed { AreKeyed (T.key_at table.now) self.old }
@@ -226,5 +251,24 @@ impl Buckets {
         for definition in definitions {
             self.take_last(table, definition.hash, definition.label);
         }
+    }
+
+    /// Gives up the definitions of each name behind its first, and their memory.
+    pub fn release_later(&mut self)
+        ensures keyed { (names : Label → Option Key) → AreKeyed names self.old → AreKeyed names self.new }
+        ensures definitions { (names : Label → Option Key) (asked : Key) → definitions_at names self.new asked ≡ take 1 (definitions_at names self.old asked) }
+        ensures overridden { (names : Label → Option Key) (asked : Key) → overridden_at names self.new asked ≡ overridden_at names self.old asked }
+        ensures labels { (names : Label → Option Key) (asked : Key) → label_at names self.new asked ≡ label_at names self.old asked }
+    {
+        release_all(self.buckets.as_mut_slice());
+    }
+}
+
+/// Gives up the definitions of each name behind its first, in each bucket.
+fn release_all(buckets: &mut [Bucket])
+    ensures { map heads_in buckets.new ≡ map (map first_alone) (map heads_in buckets.old) }
+{
+    for bucket in buckets.iter_mut() {
+        bucket.release_later();
     }
 }

@@ -1,6 +1,7 @@
 //! What a bucket keeps of a name.
 
-ghost use Rattle.std.specs.Prelude.{◌≡◌, ◌++◌, [], ◌∷◌, ◌-◌, ◌<◌, Some, IsTrue, OnOk, OnErr, length, take, drop, slice_get, option_map, if◌then◌else◌, ◌↔◌};
+ghost use Rattle.std.specs.Prelude.{◌≡◌, ◌++◌, [], ◌∷◌, ◌-◌, ◌<◌, Some, IsTrue, OnOk, OnErr, length, map, take, drop, slice_get, option_map, if◌then◌else◌, ◌↔◌};
+ghost use Rattle.link_buckets.specs.Heads.{first_alone};
 
 use crate::label::Label;
 use std::alloc::{AllocError, Global};
@@ -65,6 +66,13 @@ impl Definitions {
     {
         self.later.pop().is_some()
     }
+
+    /// Gives up those behind the first, and their memory.
+    fn release_later(&mut self, alloc: Global)
+        ensures { self.new ≡ take 1 self.old }
+    {
+        self.later = Vec::new(alloc);
+    }
 }
 
 /// A name that is defined or overridden, by a label that leads to it. Where it is neither any more, the head is not in use.
@@ -77,7 +85,7 @@ pub struct Head {
 }
 
 impl Head {
-    ghost use Rattle.link_buckets.specs.Heads.{ids_of, is_used, mapped_of, without_last};
+    ghost use Rattle.link_buckets.specs.Heads.{first_alone, ids_of, is_used, mapped_of, without_last};
 
     /// A label that leads to the name.
     pub fn label(&self) -> Label
@@ -141,5 +149,22 @@ impl Head {
                 self.definitions = None;
             }
         }
+    }
+    /// Gives up the definitions behind the first, and their memory.
+    pub(crate) fn release_later(&mut self, alloc: Global)
+        ensures { self.new ≡ first_alone self.old }
+    {
+        if let Some(definitions) = &mut self.definitions {
+            definitions.release_later(alloc);
+        }
+    }
+}
+
+/// Gives up the definitions of each head behind its first.
+pub(crate) fn release_all(heads: &mut [Head], alloc: Global)
+    ensures { heads.new ≡ map first_alone heads.old }
+{
+    for head in heads.iter_mut() {
+        head.release_later(alloc);
     }
 }

@@ -228,8 +228,10 @@ fn names_are_told_apart_in_any_number_of_buckets(rt: HostRuntime) -> Result<(), 
 enum Call {
     Add,
     Override,
+    Remap,
     Restore,
     RemoveLast,
+    ReleaseLater,
 }
 
 /// Makes a call on an entry.
@@ -257,8 +259,17 @@ fn called(
         Call::Override => {
             let _before = buckets.override_name(table, hash, label, id)?;
         }
+        Call::Remap => {
+            if buckets
+                .mapped(table, hash_bytes(name), name, version)
+                .is_some()
+            {
+                buckets.remap(table, hash_bytes(name), name, version, id);
+            }
+        }
         Call::Restore => buckets.restore(table, hash_bytes(name), name, version),
         Call::RemoveLast => buckets.remove_last(table, hash_bytes(name), name, version),
+        Call::ReleaseLater => buckets.release_later(),
     }
     Ok(())
 }
@@ -282,6 +293,9 @@ const CALLS: &[(Call, u32, u32, &str)] = &[
     (Call::Add, 5, 51, "51 > 51"),
     (Call::RemoveLast, 5, 0, "> nothing"),
     (Call::Restore, 4, 0, "50 > 50"),
+    (Call::Add, 4, 52, "50 52 > 50"),
+    (Call::Remap, 4, 53, "50 52 > 53"),
+    (Call::ReleaseLater, 4, 0, "50 > 53"),
     (Call::Add, 0, 60, "60 > 60"),
 ];
 

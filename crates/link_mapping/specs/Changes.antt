@@ -1,0 +1,20 @@
+-- What calls change of a mapping.
+use Rattle.std.specs.Prelude.{◌++◌, ℕ, List, [], ◌∷◌, Option, Some, if◌then◌else◌, slice_get}
+use Rattle.std.specs.Option.{option_and_then, option_map_or}
+use Rattle.std.specs.Str.{bytes_eq}
+use Rattle.link_buckets.specs.Keys.{Key, same_key}
+use Rattle.link_files.specs.HeldFiles.{names_in}
+use Rattle.link_mapping.specs.Mapped.{Mapped, mapping_of}
+use Rattle.link_mapping.specs.Keys.{plain_key}
+
+-- one name is overridden
+abbrev pub overridden_with : List ℕ → ℕ → (List ℕ → Option ℕ) → List ℕ → Option ℕ
+overridden_with name id old = λ n. if bytes_eq n name then Some id else old n
+
+-- the name under which a new symbol of this name is listed: that of the symbol to which the name is mapped, if it is
+abbrev pub listing_name : {P : Type 0} → Mapped P → List ℕ → List ℕ
+listing_name m name = option_map_or (λ own. own) (option_and_then (λ s. slice_get (names_in m.files) s) (mapping_of m name)) name
+
+-- one definition more of a plain name, behind the others
+abbrev pub listed_under : List ℕ → ℕ → (Key → List ℕ) → Key → List ℕ
+listed_under name id old = λ key. if same_key (plain_key name) key then old key ++ id ∷ [] else old key

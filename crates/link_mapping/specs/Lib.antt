@@ -1,0 +1,6 @@
+pub mod Keys
+pub mod Parts
+pub mod Tables
+pub mod Mapped
+pub mod Changes
+pub mod Seen

@@ -1,0 +1,103 @@
+//! Which symbols define a name, and what it is mapped to.
+
+ghost use Rattle.std.specs.Prelude.{◌≡◌};
+ghost use Rattle.link_rules.specs.Places.{behind_head};
+ghost use Rattle.link_mapping.specs.Tables.{AreNamed};
+
+use crate::name_tables::NameTables;
+use link_buckets::{Buckets, Definitions};
+use link_files::Files;
+use link_ids::SymbolId;
+use link_input::Platform;
+use link_names::hash_bytes;
+use std::alloc::{AllocError, Global};
+
+/// The files of a link, and for each name the symbols that define it and the one that it is mapped to. Mirrors what Wild's `SymbolDb`
+/// holds of names. A contract sees what `seen` tells of it.
+#[derive(Drop)]
+pub struct SymbolMapping<P: Platform> {
+    pub(crate) tables: NameTables<P>,
+    pub(crate) buckets: Buckets,
+    ghost named: { AreNamed tables.files tables.overridden.items buckets },
+}
+
+impl<P: Platform> SymbolMapping<P> {
+    ghost use Rattle.std.specs.Prelude.{◌<◌, [], All, IfOk, IfSome, None, length};
+    ghost use Rattle.std.specs.Option.{option_map_or};
+    ghost use Rattle.link_names.specs.NameHash.{fnv_1a};
+    ghost use Rattle.link_buckets.specs.Keys.{key_of};
+    ghost use Rattle.link_files.specs.HeldFiles.{names_in};
+    ghost use Rattle.link_mapping.specs.Mapped.{later_in, mapped_key};
+    ghost use Rattle.link_mapping.specs.Seen.{seen};
+
+    /// No files, and so many buckets for names.
+    pub fn new(alloc: Global, buckets: usize) -> Result<Self, AllocError>
+        requires { 0 < buckets }
+        ensures files { IfOk result (λ m. (seen m).files ≡ record { groups = []; added = [] }) }
+        ensures lists { IfOk result (λ m. (seen m).lists ≡ (λ _. [])) }
+        ensures overridden { IfOk result (λ m. (seen m).overridden ≡ (λ _. None)) }
+    {
+        let tables = NameTables {
+            files: Files::new(alloc),
+            overridden: Vec::new(alloc),
+        };
+        let buckets = Buckets::new(alloc, buckets)?;
+        Ok(SymbolMapping { tables, buckets })
+    }
+
+    /// The files.
+    pub fn files(&self) -> &Files<P>
+        ensures { result.now ≡ (seen self.now).files }
+    {
+        &self.tables.files
+    }
+
+    /// The definitions of the name, or of the name and version, where it has some.
+    pub fn definitions(
+        &self,
+        hash: u64,
+        name: &[u8],
+        version: Option<&[u8]>,
+    ) -> Option<&Definitions>
+        requires hashed { hash ≡ fnv_1a name.now }
+        ensures value { option_map_or (λ d. d.now) result [] ≡ (seen self.now).lists (key_of name.now version.entry) }
+        ensures within { IfSome result (λ d. All (λ id. id < length (names_in (seen self.now).files)) d.now) }
+    {
+        self.buckets.definitions(&self.tables, hash, name, version)
+    }
+
+    /// The symbol to which the name, or the name and version, is mapped.
+    pub fn mapped(&self, hash: u64, name: &[u8], version: Option<&[u8]>) -> Option<SymbolId>
+        requires hashed { hash ≡ fnv_1a name.now }
+        ensures value { result ≡ mapped_key (seen self.now) (key_of name.now version.entry) }
+        ensures within { IfSome result (λ id. id < length (names_in (seen self.now).files)) }
+    {
+        let number = self.buckets.mapped(&self.tables, hash, name, version)?;
+        Some(SymbolId::from_usize(number as usize))
+    }
+
+    /// The definitions of the symbol's name that come behind it, where it is the first of them.
+    pub fn later_definitions(&self, id: SymbolId) -> &[u32]
+        requires { id < length (names_in (seen self.now).files) }
+        ensures value { result.now ≡ later_in (seen self.now) id }
+        ensures within { All (λ later. later < length (names_in (seen self.now).files)) result.now }
+    {
+        let name = self.tables.files.symbol_name(id);
+        let hash = hash_bytes(name.as_slice());
+        match self.definitions(hash, name.as_slice(), None) {
+            Some(definitions) => behind(definitions, id),
+            None => &[],
+        }
+    }
+}
+
+/// Those behind the symbol, where it is the first.
+fn behind(definitions: &Definitions, id: SymbolId) -> &[u32]
+    ensures { result.now ≡ behind_head id definitions.now }
+{
+    if definitions.first() as usize == id.as_usize() {
+        definitions.later()
+    } else {
+        &[]
+    }
+}
