@@ -1,3 +1,4 @@
 pub mod Freed
 pub mod Ids
+pub mod Lookups
 pub mod Walked

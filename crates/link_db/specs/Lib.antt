@@ -1,3 +1,5 @@
-pub mod RustForm
+pub mod Database
 pub mod Mangled
+pub mod RustForm
+pub mod Seen
 pub mod Unshared

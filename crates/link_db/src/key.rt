@@ -11,9 +11,9 @@ use std::marker::Model;
 /// `PreHashedSymbolName`, but that the bytes are lent. A contract sees the name and the version.
 #[derive(Debug, Drop)]
 pub struct SymbolKey<'a> {
-    name: &'a [u8],
-    version: Option<&'a [u8]>,
-    hash: u64,
+    pub(crate) name: &'a [u8],
+    pub(crate) version: Option<&'a [u8]>,
+    pub(crate) hash: u64,
 }
 
 impl<'a> Model for SymbolKey<'a> {

@@ -1,10 +1,14 @@
 //! The database of names and symbols: the room between the tables of files and the choices of a link.
 #![tactic(auto)]
 
+mod database;
+mod definitions;
 mod growing;
 mod key;
+mod lookup;
 mod mangled;
 mod picking;
 mod rust_form;
 
+pub use database::SymbolDb;
 pub use key::SymbolKey;

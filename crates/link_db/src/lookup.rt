@@ -1,0 +1,66 @@
+//! What a reference stands for.
+
+use crate::database::SymbolDb;
+use crate::key::SymbolKey;
+use crate::picking::pick_unshared;
+use link_ids::SymbolId;
+use link_input::Platform;
+use link_names::hash_bytes;
+
+impl<P: Platform> SymbolDb<P> {
+    ghost use Rattle.std.specs.Prelude.{◌≡◌, ◌<◌, ◌||◌, IfSome, length, not};
+    ghost use Rattle.link_flags.specs.Pick.{pick};
+    ghost use Rattle.link_files.specs.HeldFiles.{is_shared_in};
+    ghost use Rattle.link_mapping.specs.Mapped.{mapping_of};
+    ghost use Rattle.link_rules.specs.Targets.{mapped_in, target_in, unshared_in};
+    ghost use Rattle.link_db.specs.Database.{name_table_of, symbol_names};
+    ghost use Rattle.link_db.specs.Seen.{seen};
+
+    /// The symbol that a reference to the name, or to the name and version, stands for: what the name is mapped to. A reference that is not of
+    /// default visibility, and so doesn't allow a dynamic one, passes by a shared definition to the pick of the later definitions of its
+    /// name that are not shared. None where the name is not mapped, or none of these fits.
+    pub fn get(&self, key: &SymbolKey<'_>, allow_dynamic: bool) -> Option<SymbolId>
+        ensures target { result ≡ target_in P.WEAK_SYMBOLS_OVERRIDE_COMMON (name_table_of (seen self.now)) allow_dynamic key.now.name key.now.version }
+        ensures within { IfSome result (λ id. id < length (symbol_names (seen self.now))) }
+    {
+        let mapped = self.mapped(key)?;
+        if self.is_open(mapped, allow_dynamic) {
+            Some(mapped)
+        } else {
+            self.pick_later(mapped)
+        }
+    }
+
+    /// What the name, or the name and version, is mapped to.
+    fn mapped(&self, key: &SymbolKey<'_>) -> Option<SymbolId>
+        ensures value { result ≡ mapped_in (name_table_of (seen self.now)) key.now.name key.now.version }
+        ensures within { IfSome result (λ id. id < length (symbol_names (seen self.now))) }
+    {
+        self.mapping.mapped(key.hash, key.name, key.version)
+    }
+
+    /// Whether the reference may stand for the symbol: it may be dynamic, or the symbol isn't shared.
+    fn is_open(&self, symbol: SymbolId, allow_dynamic: bool) -> bool
+        requires { symbol < length (symbol_names (seen self.now)) }
+        ensures { result ≡ (allow_dynamic || not (is_shared_in (seen self.now).mapping.files symbol)) }
+    {
+        allow_dynamic || !self.files().is_shared(symbol)
+    }
+
+    /// The symbol that the name is mapped to, whatever the reference.
+    pub fn get_unversioned(&self, name: &[u8]) -> Option<SymbolId>
+        ensures value { result ≡ mapping_of (seen self.now).mapping name.now }
+        ensures within { IfSome result (λ id. id < length (symbol_names (seen self.now))) }
+    {
+        self.mapping.mapped(hash_bytes(name), name, None)
+    }
+
+    /// The pick of the later definitions of a symbol's name that are not shared.
+    fn pick_later(&self, symbol: SymbolId) -> Option<SymbolId>
+        requires { symbol < length (symbol_names (seen self.now)) }
+        ensures value { result ≡ pick P.WEAK_SYMBOLS_OVERRIDE_COMMON (unshared_in (name_table_of (seen self.now)) symbol) }
+        ensures within { IfSome result (λ id. id < length (symbol_names (seen self.now))) }
+    {
+        pick_unshared(self.files(), self.mapping.later_definitions(symbol))
+    }
+}
