@@ -8,6 +8,7 @@ mod key;
 mod lookup;
 mod mangled;
 mod picking;
+mod queries;
 mod rust_form;
 
 pub use database::SymbolDb;
