@@ -1,4 +1,5 @@
 pub mod Freed
+pub mod FreedNames
 pub mod Ids
 pub mod Lookups
 pub mod Walked

@@ -10,6 +10,7 @@ mod mangled;
 mod picking;
 mod queries;
 mod rust_form;
+mod rust_script;
 
 pub use database::SymbolDb;
 pub use key::SymbolKey;

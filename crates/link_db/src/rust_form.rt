@@ -42,7 +42,8 @@ fn closed(word: RawFlags) -> RawFlags
 /// A symbol is local no more.
 pub fn free_symbol(flags: &mut PerSymbolFlags, id: SymbolId)
     requires { id < length (words_of flags.old) }
-    ensures { numbers_of (words_of flags.new) ≡ each_from (freed (id ∷ [])) 0 (numbers_of (words_of flags.old)) }
+    ensures numbers { numbers_of (words_of flags.new) ≡ each_from (freed (id ∷ [])) 0 (numbers_of (words_of flags.old)) }
+    ensures len { length (words_of flags.new) ≡ length (words_of flags.old) }
 {
     free_word(flags.flags_mut(), id.as_usize());
 }
