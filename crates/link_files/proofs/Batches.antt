@@ -58,7 +58,7 @@ of-link {P} groups link = of-batches link.0 link.1.0 link.1.1
         }
 
 -- all are of the first part
-all-left : {A : Type 0} (Q : A → Type 0) (xs ys : List A) → AllByRecursion Q (xs ++ ys) → AllByRecursion Q xs
+pub all-left : {A : Type 0} (Q : A → Type 0) (xs ys : List A) → AllByRecursion Q (xs ++ ys) → AllByRecursion Q xs
 all-left Q [] ys all = tt
 all-left Q (x ∷ xs) ys all = (all.0, all-left Q xs ys all.1)
 

@@ -3,3 +3,8 @@ pub mod Numbers
 pub mod Numbered
 pub mod Lookup
 pub mod Batches
+pub mod Growing
+pub mod Changing
+pub mod Joining
+pub mod Entries
+pub mod Picking

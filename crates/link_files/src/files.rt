@@ -16,11 +16,11 @@ use std::marker::Model;
 /// sees the groups and these names. Mirrors what Wild's `SymbolDb` holds of files.
 #[derive(Drop)]
 pub struct Files<P: Platform> {
-    groups: Vec<Group<P>>,
+    pub(crate) groups: Vec<Group<P>>,
     /// The names of the symbols that the linker added.
-    added: Vec<Name>,
+    pub(crate) added: Vec<Name>,
     /// Where the ids of each file begin, in their order.
-    starts: Vec<FileStart>,
+    pub(crate) starts: Vec<FileStart>,
 }
 
 impl<P: Platform> Model for Files<P> {

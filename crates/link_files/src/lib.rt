@@ -1,6 +1,8 @@
 //! The files of a link in their groups, found by the ids of their symbols.
 #![tactic(auto)]
 
+mod adding;
+mod counting;
 mod files;
 mod search;
 mod starts;

@@ -71,7 +71,10 @@ fn one_start(alloc: Global, start: SymbolId, id: FileId) -> Result<Vec<FileStart
 }
 
 /// The files of a group.
-fn group_starts<P: Platform>(alloc: Global, group: &Group<P>) -> Result<Vec<FileStart>, AllocError>
+pub fn group_starts<P: Platform>(
+    alloc: Global,
+    group: &Group<P>,
+) -> Result<Vec<FileStart>, AllocError>
     ensures { IfOk result (λ starts. starts.items ≡ group_starts group.now) }
 {
     match group {
