@@ -63,7 +63,7 @@ all-left Q [] ys all = tt
 all-left Q (x ∷ xs) ys all = (all.0, all-left Q xs ys all.1)
 
 -- where the groups of a link's batches are added, the linker has added no symbol before
-none-added : {P : Type 0} (held : HeldFiles P) (starts : List FileStart) (more : List (Group P)) → AreHeld held starts → AreGroupsOfLink (held.groups ++ more) → length held.added ≡ 0
+pub none-added : {P : Type 0} (held : HeldFiles P) (starts : List FileStart) (more : List (Group P)) → AreHeld held starts → AreGroupsOfLink (held.groups ++ more) → length held.added ≡ 0
 none-added {P} held starts more h link =
     let old = flat_map (λ (g : Group P). files_of g) held.groups in
     let all = of-link (held.groups ++ more) link in

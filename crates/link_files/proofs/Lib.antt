@@ -8,3 +8,4 @@ pub mod Changing
 pub mod Joining
 pub mod Entries
 pub mod Picking
+pub mod Prefix

@@ -58,10 +58,11 @@ impl<P: Platform> Files<P> {
         self.groups.as_slice()
     }
 
-    /// Adds the groups of a batch. After a refusal, which is want of memory, all is as before.
+    /// Adds the groups of a batch, before the linker adds any symbol. After a refusal, which is want of memory, all is as before.
     pub fn add_groups(&mut self, alloc: Global, groups: Vec<Group<P>>) -> Result<(), AllocError>
         requires { AreGroupsOfLink (self.old.groups ++ groups.items) }
         ensures ok { OnOk result (self.new ≡ record self.old { groups = self.old.groups ++ groups.items }) }
+        ensures none { OnOk result (self.old.added ≡ []) }
         ensures err { OnErr result (self.new ≡ self.old) }
     {
         let held = self.starts.len();

@@ -4,6 +4,7 @@
 mod adding;
 mod counting;
 mod files;
+mod removing;
 mod search;
 mod starts;
 mod symbol_queries;

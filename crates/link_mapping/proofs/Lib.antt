@@ -1,3 +1,5 @@
 pub mod Listing
 pub mod InParts
 pub mod Telling
+pub mod Overrides
+pub mod Wraps

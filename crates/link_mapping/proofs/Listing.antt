@@ -55,16 +55,16 @@ kept_first true x xs = refl
 kept_first false x xs = refl
 
 -- both tests, of which the second passes or fails
-and_true : (b : Bool) → (b && true) ≡ b
+pub and_true : (b : Bool) → (b && true) ≡ b
 and_true true = refl
 and_true false = refl
 
-and_false : (b : Bool) → (b && false) ≡ false
+pub and_false : (b : Bool) → (b && false) ≡ false
 and_false true = refl
 and_false false = refl
 
 -- where a label leads by its own key
-leads_by : (names : Label → Option Key) (label : Label) (own asked : Key) → names label ≡ Some own → leads_to names label asked ≡ same_key own asked
+pub leads_by : (names : Label → Option Key) (label : Label) (own asked : Key) → names label ≡ Some own → leads_to names label asked ≡ same_key own asked
 leads_by names label own asked is = rw is refl
 
 -- the ids of two definitions, each of which may be there

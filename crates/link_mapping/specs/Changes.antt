@@ -1,15 +1,15 @@
 -- What calls change of a mapping.
-use Rattle.std.specs.Prelude.{◌++◌, ℕ, List, [], ◌∷◌, Option, Some, if◌then◌else◌, slice_get}
+use Rattle.std.specs.Prelude.{◌++◌, ℕ, List, [], ◌∷◌, Some, if◌then◌else◌, slice_get}
 use Rattle.std.specs.Option.{option_and_then, option_map_or}
-use Rattle.std.specs.Str.{bytes_eq}
 use Rattle.link_buckets.specs.Keys.{Key, same_key}
 use Rattle.link_files.specs.HeldFiles.{names_in}
-use Rattle.link_mapping.specs.Mapped.{Mapped, mapping_of}
+use Rattle.link_rules.specs.Names.{mapping_with}
 use Rattle.link_mapping.specs.Keys.{plain_key}
+use Rattle.link_mapping.specs.Mapped.{Mapped, mapping_of}
 
--- one name is overridden
-abbrev pub overridden_with : List ℕ → ℕ → (List ℕ → Option ℕ) → List ℕ → Option ℕ
-overridden_with name id old = λ n. if bytes_eq n name then Some id else old n
+-- one plain name is overridden
+abbrev pub with_override : {P : Type 0} → List ℕ → ℕ → Mapped P → Mapped P
+with_override name id m = record m { overridden = mapping_with name (Some id) m.overridden }
 
 -- the name under which a new symbol of this name is listed: that of the symbol to which the name is mapped, if it is
 abbrev pub listing_name : {P : Type 0} → Mapped P → List ℕ → List ℕ

@@ -1,5 +1,5 @@
 -- What a mapping of symbols says.
-use Rattle.std.specs.Prelude.{List, ℕ}
+use Rattle.std.specs.Prelude.{List, ℕ, Option, slice_get}
 use Rattle.link_buckets.specs.declared.buckets.Buckets.{Buckets}
 use Rattle.link_buckets.specs.Buckets.{definitions_at, overridden_at}
 use Rattle.link_files.specs.HeldFiles.{HeldFiles}
@@ -20,3 +20,7 @@ told_by held names buckets = record {
 -- its files, and what its buckets say under the names of its tables
 abbrev pub seen : {P : Type 0} {G : Ghosts P} → SymbolMapping P G → Mapped P
 seen m = told_by m.tables.files m.tables.overridden.items m.buckets
+
+-- the name that is held at this place beside those of the files
+abbrev pub held_at : {P : Type 0} {G : Ghosts P} → SymbolMapping P G → ℕ → Option (List ℕ)
+held_at m place = slice_get m.tables.overridden.items place

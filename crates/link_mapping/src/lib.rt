@@ -2,7 +2,9 @@
 #![tactic(auto)]
 
 mod name_tables;
+mod overriding;
 mod parts;
 mod symbol_mapping;
+mod wrapping;
 
 pub use symbol_mapping::SymbolMapping;

@@ -1,0 +1,16 @@
+use Rattle.std.proofs.Common.{◌≡◌, length, subst, sym, take}
+use Rattle.std.specs.List.{flat_map}
+use Rattle.link_groups.specs.Groups.{files_of}
+use Rattle.link_files.specs.GroupFiles.{AreGroupsOfLink}
+use Rattle.link_files.specs.HeldFiles.{HeldFiles}
+use Rattle.link_files.proofs.Prefix.{held-so-many}
+use Rattle.link_files.proofs.files.Files.remove_groups.Goals as goal
+
+pub invariant_of-self : goal.invariant_of-self
+invariant_of-self g c =
+    let fields = c.self.inside in
+    let held : HeldFiles g.row.P.Denot = record { groups = fields.groups.items; added = fields.added.items } in
+    let link : AreGroupsOfLink held.groups = subst (λ (h : HeldFiles g.row.P.Denot). AreGroupsOfLink h.groups) (sym c.self.view_is) c.requires.link in
+    let count : c.args.files ≡ length (flat_map files_of (take c.args.groups held.groups)) =
+    subst (λ (h : HeldFiles g.row.P.Denot). c.args.files ≡ length (flat_map files_of (take c.args.groups h.groups))) (sym c.self.view_is) c.requires.files in
+    rw (c.truncate.ensures.items, c.truncate-2.ensures.items) (held-so-many held fields.starts.items c.args.groups c.args.files c.self.invariant link count)
