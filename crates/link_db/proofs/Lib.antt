@@ -1,3 +1,4 @@
+pub mod LastEntry
 pub mod Freed
 pub mod FreedNames
 pub mod Ids

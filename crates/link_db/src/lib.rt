@@ -3,6 +3,7 @@
 
 mod database;
 mod definitions;
+mod entry;
 mod growing;
 mod key;
 mod lookup;
