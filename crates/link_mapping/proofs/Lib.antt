@@ -3,3 +3,5 @@ pub mod InParts
 pub mod Telling
 pub mod Overrides
 pub mod Wraps
+pub mod Grown
+pub mod Batches
