@@ -219,3 +219,20 @@ pub popped : {A : Type 0} (before all left : List A) (x : A) (n : ℕ) → all �
 popped before all left x n is count taken =
     let len : n - 1 ≡ length before = omega (arith, count, ap length is, length-append before (x ∷ [])) in
     taken ∙ (ap (λ k. take k all) len ∙ (ap (take (length before)) is ∙ take-append_seam before (x ∷ [])))
+
+-- with a symbol more that the linker adds, those in tables stay
+pub symbols-kept : {P : Type 0} (held : HeldFiles P) (name : List ℕ) → EndsInSynthetic held.groups → symbols_in (with_symbol held name).groups ≡ symbols_in held.groups
+symbols-kept {P} held name last =
+    let more = with_len last.1.0 (last.1.0.symbol_id_range.len + 1) in
+    ap (λ (gs : List (Group P)). symbols_in gs) (with-id-is (with_id held.groups) held.groups last refl)
+    ∙ (symbols-last last.0 more ∙ (sym (symbols-last last.0 last.1.0) ∙ sym (ap (λ (gs : List (Group P)). symbols_in gs) last.1.1)))
+
+-- its name stands behind those of all others
+pub names-kept : {P : Type 0} (held : HeldFiles P) (name : List ℕ) → EndsInSynthetic held.groups → names_in (with_symbol held name) ≡ names_in held ++ name ∷ []
+names-kept held name last =
+    ap (λ (l : List Symbol). map (λ (x : Symbol). x.name) l ++ (held.added ++ name ∷ [])) (symbols-kept held name last)
+    ∙ sym (append_assoc (map (λ (x : Symbol). x.name) (symbols_in held.groups)) held.added (name ∷ []))
+
+-- and another symbol can be added
+pub ends-kept : {P : Type 0} (held : HeldFiles P) (name : List ℕ) → EndsInSynthetic held.groups → EndsInSynthetic (with_symbol held name).groups
+ends-kept held name last = (last.0, (with_len last.1.0 (last.1.0.symbol_id_range.len + 1), with-id-is (with_id held.groups) held.groups last refl))

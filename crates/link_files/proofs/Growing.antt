@@ -15,7 +15,7 @@ use Rattle.link_groups.specs.Groups.{RunsFrom, file_ids, files_of}
 use Rattle.link_files.specs.declared.starts.FileStart.{FileStart}
 use Rattle.link_files.specs.Adding.{CanFollow, HasNoSymbols}
 use Rattle.link_files.specs.GroupFiles.{symbols_in}
-use Rattle.link_files.specs.HeldFiles.{HeldFiles}
+use Rattle.link_files.specs.HeldFiles.{HeldFiles, names_in}
 use Rattle.link_files.specs.Numbered.{AreHeld, AreNumbered, HasNoTable, spans_of}
 use Rattle.link_files.specs.Starts.{starts_of, group_starts}
 use Rattle.link_files.proofs.Lookup.{ids-count}
@@ -63,7 +63,7 @@ all-join Q [] ys left right = right
 all-join Q (x ∷ xs) ys left right = (left.0, all-join Q xs ys left.1 right)
 
 -- files without symbols have no table
-no-tables : (next : ℕ) (fs : List SequencedFile) → AllByRecursion (HasNoSymbols next) fs → AllByRecursion HasNoTable fs
+pub no-tables : (next : ℕ) (fs : List SequencedFile) → AllByRecursion (HasNoSymbols next) fs → AllByRecursion HasNoTable fs
 no-tables next [] none = tt
 no-tables next (f ∷ fs) none =
     ((none.0.0, ids-of-table f.file f.symbols.len (ap (λ (s : Span). s.len) none.0.1 ∙ sym none.0.0)), no-tables next fs none.1)
@@ -122,3 +122,8 @@ pub held-pushed : {P : Type 0} (held : HeldFiles P) (starts : List FileStart) (g
 held-pushed {P} held starts g groups more all h can is found joined =
     subst (λ (gs : List (Group P)). AreHeld (record held { groups = gs }) all) (sym is)
     (subst (λ (l : List FileStart). AreHeld (record held { groups = held.groups ++ g ∷ [] }) l) (sym (joined ∙ ap (λ (l : List FileStart). starts ++ l) found)) (held-group held starts g h can))
+
+-- behind a group without symbols the names are those that were held
+pub names-more : {P : Type 0} (held : HeldFiles P) (g : Group P) → CanFollow held g → names_in (record held { groups = held.groups ++ g ∷ [] }) ≡ names_in held
+names-more held g can =
+    ap (λ (l : List Symbol). map (λ (x : Symbol). x.name) l ++ held.added) (symbols-more held.groups g (no-tables (length (names_in held)) (files_of g) can.none))

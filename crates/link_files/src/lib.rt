@@ -1,4 +1,4 @@
-//! The files of a link in their groups, found by the ids of their symbols.
+//! The files of a link in their groups, found by the ids of their symbols, and the symbols that the linker adds.
 #![tactic(auto)]
 
 mod adding;

@@ -1,4 +1,4 @@
-//! That files are held where memory is ample, and each of their symbols is found.
+//! That files are held and symbols added where memory is ample, and each symbol is found.
 
 use crate::Files;
 use link_flags::Visibility;
@@ -86,9 +86,13 @@ fn each_symbol_is_found(rt: HostRuntime) -> Result<(), Fail> {
     let mut files = Files::new(alloc);
     let groups = create_groups(alloc, &options, files.groups(), inputs(alloc)?, 2)?;
     files.add_groups(alloc, groups)?;
+    assert!(rt; files.next_group_index() < 9);
+    let _file = files.add_synthetic_group(alloc)?;
+    assert!(rt; files.num_symbols() < 9);
+    let _id = files.add_synthetic_symbol(Name::from_slice(alloc, b"e")?)?;
     assert_eq!(rt;
         shown(alloc, &files)?.as_str(),
-        " false;a false;b false;c false;d true;"
+        " false;a false;b false;c false;d true;e false;"
     );
     Ok(())
 }
