@@ -5,3 +5,4 @@ pub mod Overrides
 pub mod Wraps
 pub mod Grown
 pub mod Batches
+pub mod Synthetics

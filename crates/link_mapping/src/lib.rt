@@ -7,6 +7,7 @@ mod overriding;
 mod parts;
 mod restoring;
 mod symbol_mapping;
+mod synthetic;
 mod wrapping;
 
 pub use symbol_mapping::SymbolMapping;
