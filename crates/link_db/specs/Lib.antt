@@ -1,3 +1,4 @@
+pub mod Adding
 pub mod Database
 pub mod Mangled
 pub mod RustForm
