@@ -1,6 +1,7 @@
 //! The database of names and symbols: the room between the tables of files and the choices of a link.
 #![tactic(auto)]
 
+mod adding;
 mod counting;
 mod database;
 mod definitions;

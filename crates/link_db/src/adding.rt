@@ -1,0 +1,71 @@
+//! The files of a batch are added.
+
+ghost use Rattle.std.specs.Prelude.{◌≡◌};
+
+use crate::counting::symbols_of_groups;
+use crate::database::SymbolDb;
+use crate::growing::{grown_flags, new_entries};
+use link_flags::PerSymbolFlags;
+use link_groups::Group;
+use link_input::Platform;
+use link_reading::read_groups;
+use link_script::Demangler;
+use std::alloc::{AllocError, Global};
+use std::thread::Threads;
+
+impl<P: Platform + Sync> SymbolDb<P> {
+    ghost use Rattle.std.specs.Prelude.{◌<◌, ◌++◌, [], ◌∷◌, List, IsTrue, IfOk, OnOk, OnErr, length, not};
+    ghost use Rattle.link_flags.specs.FlagWords.{words_of};
+    ghost use Rattle.link_groups.specs.Held.{AreGroupsOf};
+    ghost use Rattle.link_input.specs.declared.options.Options.{Options};
+    ghost use Rattle.link_input.specs.declared.world.ProcessedLinkerScript.{ProcessedLinkerScript};
+    ghost use Rattle.link_input.specs.declared.world.Scripts.{Scripts};
+    ghost use Rattle.link_input.specs.InputFiles.{Batch, batch_of};
+    ghost use Rattle.link_input.specs.Limits.{batch_limit};
+    ghost use Rattle.link_files.specs.GroupFiles.{AreGroupsOfLink, symbols_in};
+    ghost use Rattle.link_mapping.specs.Mapped.{AreListed};
+    ghost use Rattle.link_rules.specs.Places.{is_empty};
+    ghost use Rattle.link_rules.specs.World.{Stage};
+    ghost use Rattle.link_loader.specs.Causes.{TellsCause};
+    ghost use Rattle.link_loader.specs.Holds.{AreRulesOf, HoldsTexts, platform_of};
+    ghost use Rattle.link_db.specs.Database.{HasTable, symbol_names};
+    ghost use Rattle.link_db.specs.Adding.{HaveOpeningFlags, IsGrown, inputs_cause};
+    ghost use Rattle.link_db.specs.Seen.{seen};
+
+    /// Reads the groups of a batch side by side, and adds what they hold. A refused call, for want of memory, leaves database and flags as they
+    /// were.
+    fn add_groups<R: Threads + Sync, D: Demangler + Sync>(
+        &mut self,
+        rt: &R,
+        alloc: Global,
+        demangler: &D,
+        flags: &mut PerSymbolFlags,
+        groups: Vec<Group<P>>,
+    ) -> Result<(), AllocError>
+        requires groups { AreGroupsOfLink ((seen self.old).mapping.files.groups ++ groups.items) }
+        requires table { HasTable (seen self.old) }
+        requires flags { length (words_of flags.old) ≡ length (symbol_names (seen self.old)) }
+        ensures files { OnOk result ((seen self.new).mapping.files ≡ record (seen self.old).mapping.files { groups = (seen self.old).mapping.files.groups ++ groups.items }) }
+        ensures lists { OnOk result (AreListed (symbols_in (seen self.old).mapping.files.groups) (seen self.old).mapping → AreListed (symbols_in (seen self.new).mapping.files.groups) (seen self.new).mapping) }
+        ensures grown { OnOk result (IsGrown (seen self.old) (seen self.new)) }
+        ensures rules { (seen self.new).rules ≡ (seen self.old).rules }
+        ensures flags { OnOk result ((w : Stage) → AreRulesOf (platform_of P.Platform) (D.demangled demangler.now) (seen self.old).rules w.rules → w.options.output ≡ (seen self.old).options.output
+            → HaveOpeningFlags w (seen self.old) (seen self.new) (words_of flags.old) (words_of flags.new)) }
+        ensures unchanged { OnErr result (seen self.new ≡ seen self.old) }
+        ensures flags_unchanged { OnErr result (flags.new ≡ flags.old) }
+    {
+        let held = self.files().num_symbols();
+        let more = symbols_of_groups(groups.as_slice());
+        let output = self.options.output;
+        let parts = read_groups(rt, alloc, &self.rules, output, demangler, groups.as_slice())?;
+        let grown = grown_flags(alloc, flags, parts.as_slice())?;
+        let mut entries = new_entries(alloc, held, held + more)?;
+        self.table.append(&mut entries)?;
+        if let Err(error) = self.mapping.add_groups(alloc, groups, parts.as_slice()) {
+            self.table.truncate(held);
+            return Err(error);
+        }
+        *flags = grown;
+        Ok(())
+    }
+}
