@@ -1,5 +1,6 @@
 pub mod Database
 pub mod Mangled
+pub mod Places
 pub mod RustForm
 pub mod RustScript
 pub mod Seen

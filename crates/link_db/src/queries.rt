@@ -45,10 +45,11 @@ impl<P: Platform> SymbolDb<P> {
         self.files().next_group_index()
     }
 
-    /// The file with this id.
+    /// The file with this id. It can be asked for the ids of its symbols.
     pub fn file(&self, id: FileId) -> SequencedInput<'_, P>
         requires { IsTrue (is_some (file_at (seen self.now).mapping.files.groups id)) }
-        ensures { file_at (seen self.now).mapping.files.groups id ≡ Some (sequenced_file result) }
+        ensures value { file_at (seen self.now).mapping.files.groups id ≡ Some (sequenced_file result) }
+        ensures fits { (sequenced_file result).symbols.len < 2 ^ 32 }
     {
         self.files().file(id)
     }
