@@ -1,5 +1,5 @@
 -- The entry of the last linker script that has one.
-use Rattle.std.proofs.Common.{◌≡◌, ◌++◌, ◌∙◌, ℕ, List, [], ◌∷◌, length, map, Option, Some, None, refl, sym, ap}
+use Rattle.std.proofs.Common.{◌≡◌, ◌++◌, ◌∙◌, List, [], ◌∷◌, map, Option, Some, None, refl, sym, ap}
 use Rattle.std.specs.List.{cons_option, filter_map, flat_map}
 use Rattle.std.specs.Option.{option_or}
 use Rattle.std.proofs.lemmas.List.{append-nil}
@@ -9,9 +9,9 @@ use Rattle.link_input.specs.SequencedFiles.{SequencedFile}
 use Rattle.link_groups.specs.declared.group.Group.{Group}
 use Rattle.link_groups.specs.declared.group.Group.TheVariants as group
 use Rattle.link_groups.specs.declared.sequenced.SequencedLinkerScript.{SequencedLinkerScript}
-use Rattle.link_groups.specs.Groups.{files_of, script_file}
+use Rattle.link_groups.specs.Groups.{files_of}
 use Rattle.link_files.specs.Inputs.{script_of, scripts_in}
-use Rattle.link_rules.specs.Places.{Bytes, last_of}
+use Rattle.link_rules.specs.Places.{last_of}
 
 -- where there is a last one, it does not matter what else there would be
 last-there : {X : Type 0} (x : X) (xs : List X) (a b : Option X) → option_or (last_of (x ∷ xs)) a ≡ option_or (last_of (x ∷ xs)) b

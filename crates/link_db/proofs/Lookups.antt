@@ -1,8 +1,7 @@
 -- What names are mapped to, and the pick among definitions.
-use Rattle.std.proofs.Common.{◌≡◌, ◌<◌, ℕ, Bool, true, false, List, [], ◌∷◌, map, Option, Some, None, refl, length, All}
+use Rattle.std.proofs.Common.{◌≡◌, ◌<◌, ℕ, Bool, true, false, List, [], ◌∷◌, map, Option, Some, None, refl, All}
 use Rattle.std.specs.Prelude.{IfSome, filter, filter_map, find, not, option_map, if◌then◌else◌}
 use Rattle.std.specs.Option.{option_or}
-use Rattle.link_flags.specs.declared.strength.SymbolStrength.{SymbolStrength}
 use Rattle.link_flags.specs.declared.strength.SymbolStrength.TheVariants.{Undefined, Weak, GnuUnique, Strong, Common}
 use Rattle.link_flags.specs.Pick.{Candidate, common_of, first_strong, first_weak, is_largest, is_strong, is_weak, largest_common, pick}
 use Rattle.link_rules.specs.Places.{Bytes}

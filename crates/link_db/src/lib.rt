@@ -14,6 +14,7 @@ mod picking;
 mod queries;
 mod rust_form;
 mod rust_script;
+mod showing;
 
 pub use database::SymbolDb;
 pub use key::SymbolKey;

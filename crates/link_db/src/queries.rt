@@ -1,6 +1,8 @@
 //! What is asked of symbols.
 
 use crate::database::SymbolDb;
+use crate::entry::entry_of_scripts;
+use crate::mangled::find_mangled;
 use link_display::SymbolNameDisplay;
 use link_flags::{FlagsForSymbol, SymbolStrength, ValueFlags, Visibility};
 use link_groups::SequencedInput;
@@ -10,17 +12,21 @@ use link_names::{NameView, is_mapping_symbol_name};
 use link_script::Demangler;
 
 impl<P: Platform> SymbolDb<P> {
-    ghost use Rattle.std.specs.Prelude.{◌≡◌, ◌<◌, ◌^◌, None, Some, is_some, IsTrue, if◌then◌else◌, length, option_map, slice_get};
+    ghost use Rattle.std.specs.Prelude.{◌≡◌, ◌<◌, ◌^◌, None, Some, is_some, IsTrue, drop, if◌then◌else◌, length, option_map, slice_get};
     ghost use Rattle.std.specs.Int.RustNames.{bit_and, bit_or};
     ghost use Rattle.link_flags.specs.FlagBits as flag;
     ghost use Rattle.link_flags.specs.FlagWords.{bits_at};
     ghost use Rattle.link_groups.specs.SequencedInputs.{sequenced_file};
     ghost use Rattle.link_files.specs.GroupFiles.{file_at, IsFileOf};
     ghost use Rattle.link_files.specs.HeldFiles.{is_undefined_in, prelude_definition_of, strength_of, version_of, visibility_of};
-    ghost use Rattle.link_files.specs.Inputs.{objects_in};
+    ghost use Rattle.link_files.specs.Inputs.{objects_in, scripts_in};
     ghost use Rattle.link_names.specs.SpecialNames.{is_mapping_name};
+    ghost use Rattle.link_rules.specs.Loading.{entry_name};
+    ghost use Rattle.link_rules.specs.Places.{first_of, places_from};
     ghost use Rattle.link_rules.specs.Rivals.{two_steps};
+    ghost use Rattle.link_rules.specs.World.{Stage};
     ghost use Rattle.link_db.specs.Database.{HasTable, symbol_names};
+    ghost use Rattle.link_db.specs.Mangled.{stands_for};
     ghost use Rattle.link_db.specs.Seen.{seen};
 
     /// How many symbols there are.
@@ -45,10 +51,11 @@ impl<P: Platform> SymbolDb<P> {
         self.files().next_group_index()
     }
 
-    /// The file with this id.
+    /// The file with this id. It can be asked for the ids of its symbols.
     pub fn file(&self, id: FileId) -> SequencedInput<'_, P>
         requires { IsTrue (is_some (file_at (seen self.now).mapping.files.groups id)) }
-        ensures { file_at (seen self.now).mapping.files.groups id ≡ Some (sequenced_file result) }
+        ensures value { file_at (seen self.now).mapping.files.groups id ≡ Some (sequenced_file result) }
+        ensures fits { (sequenced_file result).symbols.len < 2 ^ 32 }
     {
         self.files().file(id)
     }
@@ -143,5 +150,22 @@ impl<P: Platform> SymbolDb<P> {
         let mut found = flags.flags_for_symbol(self.definition(id));
         found.merge(flags.flags_for_symbol(id));
         found
+    }
+
+    /// The name of the entry point: that of the options, else that of the last linker script that has one, else the platform's.
+    pub fn entry_symbol_name(&self) -> Option<&[u8]>
+        ensures { (w : Stage) → w.options ≡ (seen self.now).options → w.scripts ≡ scripts_in (seen self.now).mapping.files.groups → option_map (λ n. n.now) result ≡ entry_name w }
+    {
+        let given = self.options.entry.as_ref();
+        let known = self.options.default_entry.as_ref();
+        let name = given.or(entry_of_scripts(self.groups())).or(known)?;
+        Some(name.as_slice())
+    }
+
+    /// The first symbol, behind the undefined one, whose name is text that demangles to the target. It looks at all names.
+    pub fn find_mangled_name<D: Demangler>(&self, demangler: &D, target: &[u8]) -> Option<SymbolId>
+        ensures { result ≡ first_of (places_from (stands_for (D.demangled demangler.now) target.now) 1 (drop 1 (symbol_names (seen self.now)))) }
+    {
+        find_mangled(self.files(), demangler, target)
     }
 }

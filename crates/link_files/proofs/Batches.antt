@@ -13,8 +13,8 @@ use Rattle.link_groups.specs.FileIds.{HavePlaces}
 use Rattle.link_groups.specs.Groups.{RunsFrom, files_of}
 use Rattle.link_groups.specs.Held.{AreGroupsOf}
 use Rattle.link_files.specs.declared.starts.FileStart.{FileStart}
-use Rattle.link_files.specs.GroupFiles.{AreGroupsOfLink}
-use Rattle.link_files.specs.HeldFiles.{HeldFiles}
+use Rattle.link_files.specs.GroupFiles.{AreGroupsOfLink, symbols_in}
+use Rattle.link_files.specs.HeldFiles.{HeldFiles, names_in}
 use Rattle.link_files.specs.Numbered.{AreHeld, spans_of}
 use Rattle.link_files.specs.Starts.{group_starts, starts_of}
 use Rattle.link_files.proofs.Lookup.{names-count}
@@ -69,6 +69,10 @@ none-added {P} held starts more h link =
     let all = of-link (held.groups ++ more) link in
     let tables : AllByRecursion HasIdsForAll old = all-left HasIdsForAll old (flat_map files_of more) (subst (λ (l : List SequencedFile). AllByRecursion HasIdsForAll l) (flat_map-append files_of held.groups more) all.tables) in
     omega (arith, tabled-count 0 old tables, numbered-count old (length held.added) h.numbered)
+
+-- where the groups begin those of a link, all symbols stand in tables
+pub all-tabled : {P : Type 0} (held : HeldFiles P) (starts : List FileStart) → AreHeld held starts → (n : ℕ) → n ≡ length (names_in held) → (more : List (Group P)) → AreGroupsOfLink (held.groups ++ more) → n ≡ length (symbols_in held.groups)
+all-tabled held starts h n all more link = omega (arith, all, names-count held, none-added held starts more h link)
 
 -- no files
 pub held-none : {P : Type 0} (groups : List (Group P)) (added : List (List ℕ)) (starts : List FileStart) → groups ≡ [] → added ≡ [] → starts ≡ [] → AreHeld (record { groups = groups; added = added }) starts

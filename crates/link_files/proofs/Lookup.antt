@@ -1,6 +1,6 @@
 -- The file of a symbol.
-use Rattle.std.proofs.Common.{◌≡◌, ◌+◌, ◌-◌, ◌<◌, ◌≤◌, ◌∙◌, ℕ, zero, suc, List, [], ◌∷◌, length, map, get_or, Some, refl, sym, ap, subst, arith, length-append}
-use Rattle.std.specs.Prelude.{IfSome, slice_get}
+use Rattle.std.proofs.Common.{◌≡◌, ◌+◌, ◌-◌, ◌<◌, ◌≤◌, ◌∙◌, ◌^◌, ℕ, zero, suc, List, [], ◌∷◌, length, map, get_or, Some, refl, sym, ap, subst, arith, length-append}
+use Rattle.std.specs.Prelude.{IfSome, IsTrue, is_some, slice_get}
 use Rattle.std.specs.List.{flat_map}
 use Rattle.std.proofs.lemmas.List.{length-map}
 use Rattle.std.proofs.lemmas.Option.{same_Some, slice_get_read, slice_get_within}
@@ -14,7 +14,7 @@ use Rattle.link_files.specs.GroupFiles.{IsFileOf, file_at, symbols_in}
 use Rattle.link_files.specs.HeldFiles.{HeldFiles, names_in}
 use Rattle.link_files.specs.Numbered.{AreHeld, spans_of}
 use Rattle.link_files.specs.Starts.{IsLastFrom, starts_of}
-use Rattle.link_files.proofs.Numbered.{id_count, is-there, numbered-count, run-last, run-within}
+use Rattle.link_files.proofs.Numbered.{id_count, id-count-append, is-there, numbered-count, run-last, run-within}
 use Rattle.link_files.proofs.Numbers.{held-at}
 use Rattle.link_files.proofs.Places.{length-all-starts, start-file}
 
@@ -25,6 +25,31 @@ names-count held = length-append (map (λ (x : Symbol). x.name) (symbols_in held
 -- and an id
 pub ids-count : {P : Type 0} (held : HeldFiles P) (starts : List FileStart) → AreHeld held starts → length (names_in held) ≡ id_count (flat_map files_of held.groups)
 ids-count held starts h = names-count held ∙ sym (numbered-count (flat_map files_of held.groups) (length held.added) h.numbered)
+
+-- a file at a place has no more ids than all files
+few-at : (fs : List SequencedFile) (k : ℕ) (f : SequencedFile) → slice_get fs k ≡ Some f → f.symbols.len ≤ id_count fs
+few-at [] k f is = cc
+few-at (x ∷ xs) zero f is = omega (arith, ap (λ (y : SequencedFile). y.symbols.len) (same_Some x f is))
+few-at (x ∷ xs) (suc k) f is = omega (arith, few-at xs k f is)
+
+-- nor has a file with an id
+few-in : {P : Type 0} (groups : List (Group P)) (number place : ℕ) (f : SequencedFile) → file_at groups (record { group = number; file = place }) ≡ Some f → f.symbols.len ≤ id_count (flat_map files_of groups)
+few-in [] number place f is = cc
+few-in (g ∷ gs) zero place f is = omega (arith, few-at (files_of g) place f is, id-count-append (files_of g) (flat_map files_of gs))
+few-in (g ∷ gs) (suc number) place f is = omega (arith, few-in gs number place f is, id-count-append (files_of g) (flat_map files_of gs))
+
+-- the file that is read of a group has its id
+file-read : {P : Type 0} (groups : List (Group P)) (number place : ℕ) (g : Group P) (f : SequencedFile) → IsTrue (is_some (file_at groups (record { group = number; file = place }))) → g ≡ get_or groups number g
+    → slice_get (files_of g) place ≡ Some f → file_at groups (record { group = number; file = place }) ≡ Some f
+file-read [] number place g f some read is = cc
+file-read {P} (h ∷ gs) zero place g f some read is = subst (λ (k : Group P). slice_get (files_of k) place ≡ Some f) read is
+file-read (h ∷ gs) (suc number) place g f some read is = file-read gs number place g f some read is
+
+-- and 32 bits can say how many ids it has
+pub few-read : {P : Type 0} (held : HeldFiles P) (starts : List FileStart) → AreHeld held starts → (number place : ℕ) (g : Group P) (f : SequencedFile) → IsTrue (is_some (file_at held.groups (record { group = number; file = place })))
+    → g ≡ get_or held.groups number g → slice_get (files_of g) place ≡ Some f → f.symbols.len < 2 ^ 32
+few-read held starts h number place g f some read is =
+    omega (arith, few-in held.groups number place f (file-read held.groups number place g f some read is), ids-count held starts h, h.fits)
 
 -- the last file that begins at a symbol or before it has the symbol
 has-symbol : {P : Type 0} (held : HeldFiles P) → AreHeld held (starts_of held.groups) → (id k : ℕ) → IsLastFrom (starts_of held.groups) id k → id < length (names_in held)

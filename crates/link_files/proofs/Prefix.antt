@@ -1,5 +1,5 @@
 -- The first groups of a link's batches.
-use Rattle.std.proofs.Common.{◌≡◌, ◌∙◌, ◌+◌, ◌^◌, ◌<◌, ◌++◌, ℕ, List, [], length, map, take, drop, Some, refl, sym, ap, subst, arith}
+use Rattle.std.proofs.Common.{◌≡◌, ◌∙◌, ◌++◌, ℕ, List, [], length, map, take, drop, Some, sym, ap, subst, arith}
 use Rattle.std.specs.Prelude.{slice_get}
 use Rattle.std.specs.List.{flat_map, AllByRecursion}
 use Rattle.std.proofs.lemmas.List.{append-nil, map-append, take-append-drop, take_at}
@@ -12,7 +12,7 @@ use Rattle.link_groups.specs.FileIds.{HavePlaces}
 use Rattle.link_groups.specs.Groups.{RunsFrom, file_ids, files_of}
 use Rattle.link_files.specs.declared.starts.FileStart.{FileStart}
 use Rattle.link_files.specs.GroupFiles.{AreGroupsOfLink}
-use Rattle.link_files.specs.HeldFiles.{HeldFiles, names_in}
+use Rattle.link_files.specs.HeldFiles.{HeldFiles}
 use Rattle.link_files.specs.Numbered.{AreHeld, spans_of}
 use Rattle.link_files.specs.Starts.{group_starts, starts_of}
 use Rattle.link_files.proofs.Batches.{all-left, none-added, of-link}

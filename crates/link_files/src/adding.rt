@@ -48,6 +48,14 @@ impl<P: Platform> Files<P> {
         self.groups.len()
     }
 
+    /// Makes room for so many groups more. All is as before, also after a refusal, which is want of memory. Mirrors Wild's
+    /// `SymbolDb::groups_reserve`.
+    pub fn groups_reserve(&mut self, count: usize) -> Result<(), AllocError>
+        ensures { self.new ≡ self.old }
+    {
+        self.groups.reserve(count)
+    }
+
     /// The id of the next symbol.
     pub fn next_symbol_id(&self) -> SymbolId
         ensures { result ≡ length (names_in self.now) }

@@ -35,7 +35,7 @@ impl<P: Platform> Model for Files<P> {
 }
 
 impl<P: Platform> Files<P> {
-    ghost use Rattle.std.specs.Prelude.{◌++◌, [], ◌<◌, ◌^◌, OnOk, OnErr, Some, is_some, IsTrue, length, slice_get};
+    ghost use Rattle.std.specs.Prelude.{◌++◌, [], ◌<◌, ◌^◌, List, OnOk, OnErr, Some, is_some, IsTrue, length, slice_get};
     ghost use Rattle.link_groups.specs.SequencedInputs.{sequenced_file};
     ghost use Rattle.link_files.specs.GroupFiles.{AreGroupsOfLink, IsFileOf, IsIn, file_at, symbols_in};
     ghost use Rattle.link_files.specs.HeldFiles.{names_in};
@@ -76,9 +76,11 @@ impl<P: Platform> Files<P> {
         Ok(())
     }
 
-    /// How many symbols there are: those of the files, and those that the linker added.
+    /// How many symbols there are: those of the files, and those that the linker added. Where the groups begin those of a link, there
+    /// are none of the latter yet.
     pub fn num_symbols(&self) -> usize
         ensures value { result ≡ length (names_in self.now) }
+        ensures tabled { (more : List (Group P)) → AreGroupsOfLink (self.now.groups ++ more) → result ≡ length (symbols_in self.now.groups) }
         ensures fits { result < 2 ^ 32 }
     {
         let files = self.starts.len();
@@ -98,18 +100,20 @@ impl<P: Platform> Files<P> {
         self.starts[place_of(self.starts.as_slice(), id)].id
     }
 
-    /// The file with this id.
+    /// The file with this id. It can be asked for the ids of its symbols.
     pub fn file(&self, id: FileId) -> SequencedInput<'_, P>
         requires { IsTrue (is_some (file_at self.now.groups id)) }
-        ensures { file_at self.now.groups id ≡ Some (sequenced_file result) }
+        ensures value { file_at self.now.groups id ≡ Some (sequenced_file result) }
+        ensures fits { (sequenced_file result).symbols.len < 2 ^ 32 }
     {
         self.groups[id.group()].file(id.file())
     }
 
-    /// The file that has the symbol.
-    pub(crate) fn file_of(&self, id: SymbolId) -> SequencedInput<'_, P>
+    /// The file that has the symbol. It can be asked for the ids of its symbols.
+    pub fn file_of(&self, id: SymbolId) -> SequencedInput<'_, P>
         requires { id < length (names_in self.now) }
-        ensures { IsIn self.now.groups id (sequenced_file result) }
+        ensures within { IsIn self.now.groups id (sequenced_file result) }
+        ensures fits { (sequenced_file result).symbols.len < 2 ^ 32 }
     {
         self.file(self.file_id_for_symbol(id))
     }

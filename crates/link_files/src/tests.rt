@@ -84,6 +84,7 @@ fn each_symbol_is_found(rt: HostRuntime) -> Result<(), Fail> {
     let alloc = rt.alloc();
     let options = Options::new(alloc);
     let mut files = Files::new(alloc);
+    files.groups_reserve(3)?;
     let groups = create_groups(alloc, &options, files.groups(), inputs(alloc)?, 2)?;
     files.add_groups(alloc, groups)?;
     assert!(rt; files.next_group_index() < 9);

@@ -1,4 +1,4 @@
-use Rattle.std.proofs.Common.{◌≡◌, ◌∙◌, [], ◌∷◌, ap, map, sym}
+use Rattle.std.proofs.Common.{◌∙◌, [], ◌∷◌, ap, map, sym}
 use Rattle.std.proofs.lemmas.List.{nil_from_length}
 use Rattle.link_groups.specs.declared.group.Group.{Group}
 use Rattle.link_files.specs.Inputs.{scripts_in}

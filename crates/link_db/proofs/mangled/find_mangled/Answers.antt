@@ -1,4 +1,4 @@
-use Rattle.std.proofs.Common.{◌≡◌, ◌+◌, ◌∙◌, suc, sym, ap, drop, if◌then◌else◌, Some, true, false, subst, arith}
+use Rattle.std.proofs.Common.{◌≡◌, ◌+◌, suc, drop, if◌then◌else◌, Some, subst, arith}
 use Rattle.std.specs.Prelude.{slice_get}
 use Rattle.link_files.specs.HeldFiles.{names_in}
 use Rattle.link_rules.specs.Places.{first_of, places_from}

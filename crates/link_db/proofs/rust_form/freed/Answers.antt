@@ -1,5 +1,5 @@
-use Rattle.std.proofs.Common.{◌≡◌, ◌∙◌, refl, ap, bit_and}
-use Rattle.bitflags.specs.Sets.{known_bits, known_from}
+use Rattle.std.proofs.Common.{◌∙◌, ap, bit_and}
+use Rattle.bitflags.specs.Sets.{known_from}
 use Rattle.link_flags.specs.FlagTable.{flag_table}
 use Rattle.link_db.proofs.rust_form.freed.Goals as goal
 

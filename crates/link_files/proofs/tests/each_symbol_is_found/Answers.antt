@@ -7,5 +7,5 @@ use Rattle.link_files.proofs.tests.each_symbol_is_found.Goals as goal
 
 pub add_groups-requires : goal.add_groups-requires
 add_groups-requires g c =
-    let none = c.groups.ensures ∙ ap (λ (held : HeldFiles _). held.groups) c.new-files.ensures in
+    let none = c.groups.ensures ∙ ap (λ (held : HeldFiles _). held.groups) (c.groups_reserve.ensures ∙ c.new-files.ensures) in
     subst (λ (held : List (Group _)). AreGroupsOfLink (held ++ c.in_ok-groups.groups.items)) c.groups.ensures (c.new-options.result, (batch_of c.in_ok-inputs.field-0 ∷ [], c.in_ok-groups.ensures.follow [] none))

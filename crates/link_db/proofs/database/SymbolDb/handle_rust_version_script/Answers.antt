@@ -1,4 +1,4 @@
-use Rattle.std.proofs.Common.{◌≡◌, ◌∙◌, map, sym, ap, subst, refl, Some, None}
+use Rattle.std.proofs.Common.{◌≡◌, ◌∙◌, map, sym, ap, subst, refl, Some}
 use Rattle.std.specs.Prelude.{option_map}
 use Rattle.link_flags.specs.FlagWords.{words_of}
 use Rattle.link_rules.specs.Visibility.{closed_if_local}

@@ -1,4 +1,4 @@
-use Rattle.std.proofs.Common.{◌≡◌, ◌∙◌, ap, sym}
+use Rattle.std.proofs.Common.{◌∙◌, ap}
 use Rattle.link_mapping.specs.Mapped.{mapped_key}
 use Rattle.link_db.specs.Seen.{seen}
 use Rattle.link_db.proofs.Lookups.{mapped_by_key}

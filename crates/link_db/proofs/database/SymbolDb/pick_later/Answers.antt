@@ -1,4 +1,4 @@
-use Rattle.std.proofs.Common.{◌≡◌, ◌<◌, ◌∙◌, ap, sym, subst, length, IfSome, All}
+use Rattle.std.proofs.Common.{◌<◌, ◌∙◌, ap, sym, subst, length, IfSome}
 use Rattle.link_flags.specs.Pick.{pick}
 use Rattle.link_files.specs.HeldFiles.{names_in}
 use Rattle.link_db.specs.Seen.{seen}

@@ -9,6 +9,6 @@ use Rattle.link_files.proofs.files.Files.is_shared.Goals as goal
 pub returns : goal.returns
 returns g c =
     let f = sequenced_file c.file_of.result in
-    let is = c.file_of.ensures in
+    let is = c.file_of.ensures.within in
     c.is_dynamic.ensures ∙ (shared-asked is.before f.file f.symbols.len (offset_in f.symbols c.args.id) is.ids (omega (arith, is.inside.0, is.inside.1))
     ∙ ap (λ (o : Option Symbol). option_map_or (λ (x : Symbol). is_shared x.origin) o false) (sym is.same))

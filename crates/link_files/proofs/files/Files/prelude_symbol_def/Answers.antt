@@ -11,7 +11,7 @@ use Rattle.link_files.proofs.files.Files.prelude_symbol_def.Goals as goal
 
 pub returns-in-Prelude : goal.returns-in-Prelude
 returns-in-Prelude g c =
-    let is = c.in-Prelude.ensures in
+    let is = c.in-Prelude.ensures.within in
     let at : c.args.id ≡ c.args.id - 0 = omega arith in
     sym (c.symbol_def.ensures)
     ∙ (ap (slice_get c.in-Prelude.prelude.now) at
@@ -22,4 +22,4 @@ returns-in_default g c =
     let f = sequenced_file c.file_of.result in
     let j = offset_in f.symbols c.args.id in
     no-definition c.file_of.result j c.in_default.not-Prelude
-    ∙ sym (ap (λ (o : Option Symbol). option_and_then (λ (x : Symbol). definition_in x.origin) o) c.file_of.ensures.same ∙ definition-asked c.file_of.ensures.before f.file j)
+    ∙ sym (ap (λ (o : Option Symbol). option_and_then (λ (x : Symbol). definition_in x.origin) o) c.file_of.ensures.within.same ∙ definition-asked c.file_of.ensures.within.before f.file j)

@@ -13,7 +13,7 @@ returns-then-as_usize-first_added g c =
     let f = sequenced_file c.file_of.result in
     let name = λ (o : Option Symbol). option_map (λ (x : Symbol). x.name) o in
     name-left (symbols_in c.args.self.now.groups) c.args.self.now.added c.args.id c.symbol_name.result
-    (ap name c.file_of.ensures.same ∙ (same-asked name (λ m o e. refl) c.file_of.ensures.before f.file (offset_in f.symbols c.args.id) ∙ c.symbol_name.ensures))
+    (ap name c.file_of.ensures.within.same ∙ (same-asked name (λ m o e. refl) c.file_of.ensures.within.before f.file (offset_in f.symbols c.args.id) ∙ c.symbol_name.ensures))
 
 pub returns-else-as_usize-first_added : goal.returns-else-as_usize-first_added
 returns-else-as_usize-first_added g c =

@@ -12,4 +12,4 @@ returns-in_default g c =
     let f = sequenced_file c.file_of.result in
     let j = offset_in f.symbols c.args.id in
     no-entry c.file_of.result j c.in_default.not-Object
-    ∙ sym (ap (λ (o : Option Symbol). option_and_then (λ (x : Symbol). entry_in x.origin) o) c.file_of.ensures.same ∙ entry-asked c.file_of.ensures.before f.file j)
+    ∙ sym (ap (λ (o : Option Symbol). option_and_then (λ (x : Symbol). entry_in x.origin) o) c.file_of.ensures.within.same ∙ entry-asked c.file_of.ensures.within.before f.file j)

@@ -13,4 +13,4 @@ returns g c =
     let j = offset_in f.symbols c.args.id in
     let strength = λ (o : Option Symbol). option_map_or (λ (x : Symbol). binding_strength x.origin) o Undefined in
     strength-asked f.file j c.input_symbol_strength.result c.input_symbol_strength.ensures
-    ∙ sym (ap strength c.file_of.ensures.same ∙ same-asked strength (λ m o e. refl) c.file_of.ensures.before f.file j)
+    ∙ sym (ap strength c.file_of.ensures.within.same ∙ same-asked strength (λ m o e. refl) c.file_of.ensures.within.before f.file j)

@@ -11,4 +11,4 @@ returns g c =
     let f = sequenced_file c.file_of.result in
     let version = λ (o : Option Symbol). option_and_then (λ (x : Symbol). x.version) o in
     c.symbol_version_debug.ensures
-    ∙ sym (ap version c.file_of.ensures.same ∙ same-asked version (λ m o e. refl) c.file_of.ensures.before f.file (offset_in f.symbols c.args.id))
+    ∙ sym (ap version c.file_of.ensures.within.same ∙ same-asked version (λ m o e. refl) c.file_of.ensures.within.before f.file (offset_in f.symbols c.args.id))
