@@ -10,11 +10,13 @@ mod growing;
 mod key;
 mod lookup;
 mod mangled;
+mod overrides;
 mod picking;
 mod queries;
 mod rust_form;
 mod rust_script;
 mod showing;
+mod synthetic;
 
 pub use database::SymbolDb;
 pub use key::SymbolKey;
