@@ -1,7 +1,7 @@
 -- Tables to which the files of a batch come.
-use Rattle.std.proofs.Common.{◌≡◌, ◌∙◌, ◌+◌, ◌<◌, ◌≤◌, ◌&&◌, ◌++◌, ℕ, Bool, List, [], length, map, take, Option, Some, None, refl, sym, ap, subst, arith, if◌then◌else◌}
+use Rattle.std.proofs.Common.{◌≡◌, ◌∙◌, ◌+◌, ◌<◌, ◌&&◌, ◌++◌, ℕ, Bool, List, [], length, map, take, Option, Some, None, refl, sym, ap, subst, arith, if◌then◌else◌}
 use Rattle.std.specs.Prelude.{All, slice_get}
-use Rattle.std.specs.List.{list_any}
+use Rattle.std.specs.List.{flat_map, list_any}
 use Rattle.std.specs.Option.{option_and_then, option_map}
 use Rattle.std.specs.Str.{bytes_eq}
 use Rattle.std.proofs.lemmas.List.{append-nil, length-append, length-map, map-append, take_at}
@@ -12,14 +12,18 @@ use Rattle.link_buckets.specs.declared.label.Label.{Label}
 use Rattle.link_buckets.specs.Buckets.{AreKeyed, definitions_at, ids_with, overridden_at}
 use Rattle.link_buckets.specs.Keys.{Key, same_key}
 use Rattle.link_buckets.proofs.Growing.{definitions_kept}
-use Rattle.link_files.specs.GroupFiles.{symbols_in}
+use Rattle.link_files.specs.GroupFiles.{AreGroupsOfLink, symbols_in}
 use Rattle.link_files.specs.HeldFiles.{HeldFiles, names_in, version_of}
-use Rattle.link_files.proofs.Joining.{symbols-join}
+use Rattle.link_files.proofs.Joining.{follow-on, symbols-join}
 use Rattle.link_files.proofs.Places.{get-left, get-right}
+use Rattle.link_files.specs.Inputs.{objects_in}
 use Rattle.link_groups.specs.declared.group.Group.{Group}
+use Rattle.link_groups.specs.Groups.{files_of}
 use Rattle.link_input.specs.Symbols.{Symbol}
+use Rattle.link_reading.specs.Files.{file_definitions}
+use Rattle.link_reading.proofs.Runs.{all-definitions}
 use Rattle.link_reading.specs.Definitions.{definitions_from}
-use Rattle.link_rules.specs.Names.{definitions_of, is_listed, is_version_listed, versioned_definitions_of}
+use Rattle.link_rules.specs.Names.{is_listed, is_version_listed}
 use Rattle.link_rules.specs.Places.{places_from, same_version}
 use Rattle.link_mapping.specs.Batches.{symbols_behind}
 use Rattle.link_mapping.specs.Keys.{plain_key, versioned_key}
@@ -163,3 +167,14 @@ restores_read held names read old new is keyed over definitions = record {
   definitions = definitions;
   overridden = λ asked. over asked ∙ ap (λ (l : List (List ℕ)). if list_any (λ name. same_key (plain_key name) asked) l then None else overridden_at (key_at held names) old asked) is;
 }
+
+-- ---- what was read of a batch
+
+-- the definitions that were read of groups which follow others are those of the symbols that come
+pub read_behind : {P : Type 0} (held : HeldFiles P) (groups : List (Group P)) → AreGroupsOfLink (held.groups ++ groups) → held.added ≡ [] → flat_map file_definitions (flat_map files_of groups) ≡ definitions_from (length (names_in held)) (symbols_behind held.groups groups)
+read_behind {P} held groups link none =
+    let follow = follow-on held.groups groups link in
+    let files = flat_map (λ (g : Group P). files_of g) groups in
+    let comes = comes_added held (record held { groups = held.groups ++ groups }) groups none refl in
+    all-definitions (length (symbols_in held.groups)) (length (objects_in held.groups)) files follow.runs follow.tables
+    ∙ ap (λ (n : ℕ). definitions_from n (symbols_behind held.groups groups)) (sym comes.begin)

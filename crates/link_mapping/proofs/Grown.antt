@@ -1,29 +1,23 @@
 -- Tables whose files grow, and go back.
-use Rattle.std.proofs.Common.{◌≡◌, ◌∙◌, ◌+◌, ◌<◌, ◌≤◌, ◌&&◌, ◌||◌, ◌++◌, ℕ, zero, suc, Bool, true, false, cond, List, [], ◌∷◌, length, map, take, get_or, Option, Some, None, refl, sym, ap, subst, arith, if◌then◌else◌}
+use Rattle.std.proofs.Common.{◌≡◌, ◌∙◌, ◌+◌, ◌<◌, ◌≤◌, ◌||◌, ◌++◌, ℕ, Bool, true, false, cond, List, [], ◌∷◌, length, take, get_or, Option, Some, None, refl, sym, ap, subst, arith, if◌then◌else◌}
 use Rattle.std.specs.Prelude.{All, slice_get}
-use Rattle.std.specs.List.{flat_map, list_any}
+use Rattle.std.specs.List.{list_any}
 use Rattle.std.specs.Option.{is_some, option_and_then, option_map}
 use Rattle.std.specs.Str.{bytes_eq}
-use Rattle.std.proofs.lemmas.List.{append-nil, length-append, length-map, map-append, take_more}
+use Rattle.std.proofs.lemmas.List.{take_more}
 use Rattle.std.proofs.lemmas.List.Elements.{All-append}
 use Rattle.std.proofs.lemmas.List.Folds.{list_any-append}
 use Rattle.link_buckets.specs.declared.buckets.Buckets.{Buckets}
-use Rattle.link_buckets.specs.declared.definition.Definition.{Definition}
-use Rattle.link_buckets.specs.declared.label.Label.{Label}
 use Rattle.link_buckets.specs.declared.label.Label.TheVariants.{Plain, Versioned, Added}
-use Rattle.link_buckets.specs.Buckets.{AreKeyed, definitions_at, ids_with, label_at, overridden_at}
+use Rattle.link_buckets.specs.Buckets.{AreKeyed, definitions_at, label_at, overridden_at}
 use Rattle.link_buckets.specs.Keys.{Extends, Key, same_key}
 use Rattle.link_buckets.proofs.Growing.{buckets_kept, definitions_kept, overridden_kept}
 use Rattle.link_buckets.proofs.Returning.{definitions_back, keyed_back, overridden_back}
-use Rattle.link_files.specs.GroupFiles.{symbols_in}
 use Rattle.link_files.specs.HeldFiles.{HeldFiles, names_in, version_of}
-use Rattle.link_files.proofs.Places.{get-left, get-right}
-use Rattle.link_input.specs.Symbols.{Symbol}
 use Rattle.link_mapping.specs.Keys.{plain_key, versioned_key}
-use Rattle.link_mapping.specs.Mapped.{Mapped}
 use Rattle.link_mapping.specs.Seen.{told_by}
 use Rattle.link_mapping.specs.Tables.{AreNamed, is_one_of, key_at}
-use Rattle.link_mapping.proofs.Listing.{LeadFrom, and_false, and_true, ids_within}
+use Rattle.link_mapping.proofs.Listing.{and_true}
 use Rattle.link_mapping.proofs.Overrides.{Same, bytes_turned, told_same}
 
 -- ---- files that grow

@@ -1,22 +1,19 @@
 -- Tables to which files without symbols and symbols of the linker come, and lists that are cut.
-use Rattle.std.proofs.Common.{◌≡◌, ◌∙◌, ◌+◌, ◌<◌, ◌≤◌, ◌&&◌, ◌++◌, ℕ, Bool, true, false, cond, List, [], ◌∷◌, length, map, take, Option, Some, None, refl, sym, ap, subst, arith, if◌then◌else◌}
+use Rattle.std.proofs.Common.{◌≡◌, ◌∙◌, ◌<◌, ◌++◌, ℕ, Bool, true, false, cond, List, [], ◌∷◌, length, map, take, Option, Some, None, refl, sym, ap, subst, arith, if◌then◌else◌}
 use Rattle.std.specs.Prelude.{All, IfSome, OnErr, OnOk, Result, slice_get}
 use Rattle.std.specs.List.{AllByRecursion}
 use Rattle.std.specs.Option.{is_some, option_and_then, option_map, option_map_or, option_or, unwrap_or}
 use Rattle.std.proofs.lemmas.List.{append-nil, length-append}
 use Rattle.std.proofs.lemmas.List.Elements.{All-cons, All-nil}
-use Rattle.std.proofs.lemmas.Option.{slice_get_within}
 use Rattle.std.proofs.lemmas.Result.{on_err_weaker, on_ok_weaker}
 use Rattle.link_buckets.specs.declared.buckets.Buckets.{Buckets}
-use Rattle.link_buckets.specs.declared.label.Label.{Label}
 use Rattle.link_buckets.specs.declared.label.Label.TheVariants.{Plain}
 use Rattle.link_buckets.specs.Buckets.{AreKeyed, definitions_at, overridden_at}
 use Rattle.link_buckets.specs.Keys.{Key, leads_to, same_key}
 use Rattle.link_buckets.proofs.Changes.{on_both}
 use Rattle.link_buckets.proofs.Growing.{definitions_kept, overridden_kept}
-use Rattle.link_files.specs.Adding.{EndsInSynthetic, with_symbol}
-use Rattle.link_files.specs.GroupFiles.{symbols_in}
-use Rattle.link_files.specs.HeldFiles.{HeldFiles, names_in, version_of}
+use Rattle.link_files.specs.Adding.{EndsInSynthetic, next_file, no_ids, synthetic_group, with_symbol}
+use Rattle.link_files.specs.HeldFiles.{HeldFiles, names_in}
 use Rattle.link_files.specs.Numbered.{HasNoTable}
 use Rattle.link_files.proofs.Changing.{names-kept, symbols-kept}
 use Rattle.link_files.proofs.Growing.{symbols-more}
@@ -30,7 +27,7 @@ use Rattle.link_mapping.specs.Changes.{listed_under, listing_name, with_group}
 use Rattle.link_mapping.specs.Keys.{plain_key, versioned_key}
 use Rattle.link_mapping.specs.Mapped.{Mapped, mapped_key, mapping_of, override_of}
 use Rattle.link_mapping.specs.Seen.{told_by}
-use Rattle.link_mapping.specs.Tables.{AreNamed, is_one_of, key_at}
+use Rattle.link_mapping.specs.Tables.{AreNamed, key_at}
 use Rattle.link_mapping.proofs.Grown.{Grows, Lists, files_extend, grown_named, grown_told, listed_named}
 use Rattle.link_mapping.proofs.Listing.{leads_by}
 use Rattle.link_mapping.proofs.Overrides.{last_there}
@@ -61,6 +58,10 @@ pub group_told : {P : Type 0} (held new : HeldFiles P) (names : List (List ℕ))
     → told_by new names buckets ≡ with_group g (told_by held names buckets)
 group_told {P} held new names buckets g none named is =
     grown_told held new names buckets (group_grows held new g none is) named ∙ ap (λ (h : HeldFiles P). record (told_by held names buckets) { files = h }) is
+
+-- with a group for its symbols, the linker can add one
+pub ends_in_group : {P : Type 0} (held : HeldFiles P) → EndsInSynthetic (held.groups ++ synthetic_group held ∷ [])
+ends_in_group held = (held.groups, (record { file_id = next_file held; symbol_id_range = no_ids (length (names_in held)) }, refl))
 
 -- ---- first definitions alone
 

@@ -8,6 +8,8 @@ mod parts;
 mod restoring;
 mod symbol_mapping;
 mod synthetic;
+#[cfg(test)]
+mod tests;
 mod wrapping;
 
 pub use symbol_mapping::SymbolMapping;

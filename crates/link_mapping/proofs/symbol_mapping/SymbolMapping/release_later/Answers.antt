@@ -1,4 +1,3 @@
-use Rattle.std.proofs.Common.{List, ℕ}
 use Rattle.link_mapping.specs.Keys.{plain_key}
 use Rattle.link_mapping.specs.Seen.{seen, told_by}
 use Rattle.link_mapping.specs.Tables.{key_at}
