@@ -5,4 +5,5 @@ pub mod GroupCounts
 pub mod Ids
 pub mod LastEntry
 pub mod Lookups
+pub mod SameMapping
 pub mod Walked

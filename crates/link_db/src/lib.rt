@@ -17,6 +17,7 @@ mod rust_form;
 mod rust_script;
 mod showing;
 mod synthetic;
+mod wrapping;
 
 pub use database::SymbolDb;
 pub use key::SymbolKey;

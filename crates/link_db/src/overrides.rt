@@ -1,6 +1,7 @@
 //! Names are mapped anew.
 
 use crate::database::SymbolDb;
+use crate::wrapping::wrap_all;
 use link_ids::SymbolId;
 use link_input::Platform;
 use link_names::Name;
@@ -28,7 +29,8 @@ impl<P: Platform> SymbolDb<P> {
         ensures rest { IsMappedAnew (seen self.old) (seen self.new) }
         ensures err { OnErr result (seen self.new ≡ seen self.old) }
     {
-        self.mapping.override_name(name, id)
+        let before = self.mapping.override_name(name, id)?;
+        Ok(before)
     }
 
     /// Wraps the names of the options in order (GNU ld, `--wrap`): each stands for its wrapper `__wrap_N`, and `__real_N` for what it had.
@@ -38,9 +40,7 @@ impl<P: Platform> SymbolDb<P> {
         ensures some { OnErr result ((done : ℕ) × ((asked : Bytes) → mapping_of (seen self.new).mapping asked ≡ fold wrapped (mapping_of (seen self.old).mapping) (take done (seen self.old).options.wrap) asked)) }
         ensures rest { IsMappedAnew (seen self.old) (seen self.new) }
     {
-        for name in self.options.wrap.as_slice() {
-            self.mapping.wrap(alloc, name.as_slice())?;
-        }
+        wrap_all(&mut self.mapping, alloc, self.options.wrap.as_slice())?;
         Ok(())
     }
 }
