@@ -10,6 +10,7 @@ use crate::growing::{grown_flags, new_entries};
 use link_flags::PerSymbolFlags;
 use link_groups::{Group, GroupsError, create_groups};
 use link_input::{Inputs, Platform};
+use link_loader::TakenScript;
 use link_reading::read_groups;
 use link_rules::LinkError;
 use link_script::Demangler;
@@ -34,13 +35,15 @@ impl<P: Platform + Sync> SymbolDb<P> {
     ghost use Rattle.link_input.specs.declared.world.ProcessedLinkerScript.{ProcessedLinkerScript};
     ghost use Rattle.link_input.specs.declared.world.Scripts.{Scripts};
     ghost use Rattle.link_input.specs.InputFiles.{Batch, batch_of};
-    ghost use Rattle.link_input.specs.Limits.{batch_limit};
+    ghost use Rattle.link_input.specs.Limits.{batch_limit, counts_of, first_excess};
     ghost use Rattle.link_files.specs.GroupFiles.{AreGroupsOfLink, symbols_in};
     ghost use Rattle.link_mapping.specs.Mapped.{AreListed};
     ghost use Rattle.link_rules.specs.Places.{is_empty};
+    ghost use Rattle.link_rules.specs.Refusals.{too_many};
     ghost use Rattle.link_rules.specs.World.{Stage};
     ghost use Rattle.link_loader.specs.Causes.{TellsCause};
     ghost use Rattle.link_loader.specs.Holds.{AreRulesOf, HoldsTexts, platform_of};
+    ghost use Rattle.link_loader.specs.ReadTexts.{with_taken};
     ghost use Rattle.link_db.specs.Database.{HasTable, symbol_names};
     ghost use Rattle.link_db.specs.Adding.{HaveOpeningFlags, IsGrown, inputs_cause};
     ghost use Rattle.link_db.specs.Seen.{seen};
@@ -80,20 +83,59 @@ impl<P: Platform + Sync> SymbolDb<P> {
         let first = self.files().num_scripts();
         let scripts = inputs.scripts.as_slice();
         let script = self.rules.read_scripts(alloc, is_late, first, scripts)?;
-        let groups = match create_groups(alloc, &self.options, self.groups(), inputs, self.workers) {
-            Ok(groups) => groups,
-            Err(error) => return Err(error_of(error)),
-        };
-        let Some(script) = script else {
-            self.add_groups(rt, alloc, demangler, flags, groups)?;
-            return Ok(());
-        };
-        let before = self.rules.replace_script(script);
-        if let Err(error) = self.add_groups(rt, alloc, demangler, flags, groups) {
-            self.rules.replace_script(before);
-            return Err(LinkError::from(error));
-        }
+        let groups = self.groups_of(alloc, inputs)?;
+        self.add_with_script(rt, alloc, demangler, flags, script, groups)?;
         Ok(())
+    }
+
+    /// The groups of a batch of files behind those that are held.
+    fn groups_of(&self, alloc: Global, inputs: Inputs<P>) -> Result<Vec<Group<P>>, LinkError>
+        requires held { (batches : List Batch) × AreGroupsOf (seen self.now).options batches (seen self.now).mapping.files.groups × (length batches < batch_limit) }
+        ensures follow { IfOk result (λ groups. (batches : List Batch) → AreGroupsOf (seen self.now).options batches (seen self.now).mapping.files.groups
+            → AreGroupsOf (seen self.now).options (batches ++ batch_of inputs ∷ []) ((seen self.now).mapping.files.groups ++ groups.items)) }
+        ensures cause { (batches : List Batch) → AreGroupsOf (seen self.now).options batches (seen self.now).mapping.files.groups
+            → TellsCause (too_many (first_excess (counts_of (seen self.now).options (batches ++ batch_of inputs ∷ [])))) result }
+    {
+        match create_groups(alloc, &self.options, self.groups(), inputs, self.workers) {
+            Ok(groups) => Ok(groups),
+            Err(error) => Err(error_of(error)),
+        }
+    }
+
+    /// Takes the version script of a batch, if it brings one, and adds its groups. A refused call, for want of memory, leaves database and flags
+    /// as they were.
+    fn add_with_script<R: Threads + Sync, D: Demangler + Sync>(
+        &mut self,
+        rt: &R,
+        alloc: Global,
+        demangler: &D,
+        flags: &mut PerSymbolFlags,
+        script: Option<TakenScript>,
+        groups: Vec<Group<P>>,
+    ) -> Result<(), AllocError>
+        requires groups { AreGroupsOfLink ((seen self.old).mapping.files.groups ++ groups.items) }
+        requires table { HasTable (seen self.old) }
+        requires flags { length (words_of flags.old) ≡ length (symbol_names (seen self.old)) }
+        ensures files { OnOk result ((seen self.new).mapping.files ≡ record (seen self.old).mapping.files { groups = (seen self.old).mapping.files.groups ++ groups.items }) }
+        ensures lists { OnOk result (AreListed (symbols_in (seen self.old).mapping.files.groups) (seen self.old).mapping → AreListed (symbols_in (seen self.new).mapping.files.groups) (seen self.new).mapping) }
+        ensures grown { OnOk result (IsGrown (seen self.old) (seen self.new)) }
+        ensures rules { OnOk result ((seen self.new).rules ≡ with_taken script (seen self.old).rules) }
+        ensures flags { OnOk result ((w : Stage) → AreRulesOf (platform_of P.Platform) (D.demangled demangler.now) (seen self.new).rules w.rules → w.options.output ≡ (seen self.old).options.output
+            → HaveOpeningFlags w (seen self.old) (seen self.new) (words_of flags.old) (words_of flags.new)) }
+        ensures unchanged { OnErr result (seen self.new ≡ seen self.old) }
+        ensures flags_unchanged { OnErr result (flags.new ≡ flags.old) }
+    {
+        match script {
+            None => self.add_groups(rt, alloc, demangler, flags, groups),
+            Some(script) => {
+                let before = self.rules.replace_script(script);
+                if let Err(error) = self.add_groups(rt, alloc, demangler, flags, groups) {
+                    let _script = self.rules.replace_script(before);
+                    return Err(error);
+                }
+                Ok(())
+            }
+        }
     }
 
     /// Reads the groups of a batch side by side, and adds what they hold. A refused call, for want of memory, leaves database and flags as they
