@@ -1,4 +1,5 @@
 pub mod Batches
+pub mod Causes
 pub mod Freed
 pub mod FreedNames
 pub mod GroupCounts
