@@ -1,6 +1,9 @@
-pub mod LastEntry
+pub mod Batches
 pub mod Freed
 pub mod FreedNames
+pub mod GroupCounts
 pub mod Ids
+pub mod LastEntry
 pub mod Lookups
+pub mod SameMapping
 pub mod Walked

@@ -1,7 +1,10 @@
+pub mod Adding
 pub mod Database
 pub mod Mangled
+pub mod Overrides
 pub mod Places
 pub mod RustForm
 pub mod RustScript
 pub mod Seen
+pub mod Synthetic
 pub mod Unshared

@@ -1,12 +1,14 @@
 //! Columns that grow with the symbols.
 
-ghost use Rattle.std.specs.Prelude.{◌≡◌, ◌-◌, ◌<◌, ◌≤◌, ◌^◌, ◌++◌, IfOk, OnOk, map};
+ghost use Rattle.std.specs.Prelude.{◌≡◌, ◌-◌, ◌<◌, ◌≤◌, ◌^◌, ◌++◌, IfOk, OnOk, length, map};
 ghost use Rattle.std.specs.List.{range_with_len};
 ghost use Rattle.link_flags.specs.FlagWords.{words_of};
+ghost use Rattle.link_db.specs.Adding.{flags_in};
 ghost use Rattle.link_db.specs.RustForm.{numbers_of};
 
 use link_flags::{PerSymbolFlags, RawFlags, ValueFlags};
-use link_ids::SymbolId;
+use link_ids::{SymbolId, SymbolIdRange};
+use link_reading::ReadSymbols;
 use std::alloc::{AllocError, Global};
 
 /// The ids from `first` up to `end`: an entry for each symbol that points to itself.
@@ -40,4 +42,30 @@ fn push_flags(flags: &mut PerSymbolFlags, read: &[ValueFlags]) -> Result<(), All
         flags.push(*value)?;
     }
     Ok(())
+}
+
+/// Adds the flags of symbols that were read in parts.
+fn push_parts(flags: &mut PerSymbolFlags, parts: &[ReadSymbols]) -> Result<(), AllocError>
+    ensures { OnOk result (numbers_of (words_of flags.new) ≡ numbers_of (words_of flags.old) ++ flags_in parts.now) }
+{
+    for part in parts {
+        push_flags(flags, part.flags.as_slice())?;
+    }
+    Ok(())
+}
+
+/// The words that there are, and those of the symbols that were read behind them.
+pub fn grown_flags(
+    alloc: Global,
+    flags: &PerSymbolFlags,
+    parts: &[ReadSymbols],
+) -> Result<PerSymbolFlags, AllocError>
+    requires { length (words_of flags.now) < 2 ^ 32 }
+    ensures { IfOk result (λ grown. numbers_of (words_of grown) ≡ numbers_of (words_of flags.now) ++ flags_in parts.now) }
+{
+    let mut grown = PerSymbolFlags::new(alloc);
+    let all = SymbolIdRange::prelude(flags.len());
+    push_words(&mut grown, flags.raw_range(all))?;
+    push_parts(&mut grown, parts)?;
+    Ok(grown)
 }

@@ -1,6 +1,8 @@
 //! The database of names and symbols: the room between the tables of files and the choices of a link.
 #![tactic(auto)]
 
+mod adding;
+mod counting;
 mod database;
 mod definitions;
 mod entry;
@@ -8,11 +10,14 @@ mod growing;
 mod key;
 mod lookup;
 mod mangled;
+mod overrides;
 mod picking;
 mod queries;
 mod rust_form;
 mod rust_script;
 mod showing;
+mod synthetic;
+mod wrapping;
 
 pub use database::SymbolDb;
 pub use key::SymbolKey;

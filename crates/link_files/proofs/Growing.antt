@@ -63,7 +63,7 @@ all-join Q [] ys left right = right
 all-join Q (x ∷ xs) ys left right = (left.0, all-join Q xs ys left.1 right)
 
 -- files without symbols have no table
-no-tables : (next : ℕ) (fs : List SequencedFile) → AllByRecursion (HasNoSymbols next) fs → AllByRecursion HasNoTable fs
+pub no-tables : (next : ℕ) (fs : List SequencedFile) → AllByRecursion (HasNoSymbols next) fs → AllByRecursion HasNoTable fs
 no-tables next [] none = tt
 no-tables next (f ∷ fs) none =
     ((none.0.0, ids-of-table f.file f.symbols.len (ap (λ (s : Span). s.len) none.0.1 ∙ sym none.0.0)), no-tables next fs none.1)

@@ -12,4 +12,4 @@ mod texts;
 pub use opening::{
     flags_of_definition, flags_of_row, flags_of_script_symbol, flags_of_stub_symbol,
 };
-pub use texts::TextRules;
+pub use texts::{TakenScript, TextRules};

@@ -99,7 +99,9 @@ fn read(
 ) -> Result<bool, LinkError> {
     let mut rules = rules::<ElfLike>(alloc, script, list, forced)?;
     let scripts = [linker_script(alloc, version)?];
-    rules.take_scripts(alloc, false, 4, &scripts)?;
+    if let Some(script) = rules.read_scripts(alloc, false, 4, &scripts)? {
+        rules.replace_script(script);
+    }
     Ok(rules.is_taken())
 }
 

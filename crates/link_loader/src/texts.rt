@@ -1,6 +1,6 @@
 //! What the texts of a link say of names.
 
-ghost use Rattle.std.specs.Prelude.{◌≡◌, ◌+◌, ◌<◌, ◌^◌, ◌++◌, ◌&&◌, [], length, List, ℕ, IsTrue, IfOk, OnOk, OnErr, is_some, option_map};
+ghost use Rattle.std.specs.Prelude.{◌≡◌, ◌+◌, ◌<◌, ◌^◌, ◌++◌, ◌&&◌, [], length, List, ℕ, IsTrue, IfOk, None, Some, is_some, option_map};
 ghost use Rattle.link_input.specs.declared.options.Options.{Options};
 ghost use Rattle.link_input.specs.declared.world.ProcessedLinkerScript.{ProcessedLinkerScript};
 ghost use Rattle.link_input.specs.declared.world.Scripts.{Scripts};
@@ -11,7 +11,7 @@ ghost use Rattle.link_rules.specs.Rules.{Rules};
 ghost use Rattle.link_rules.specs.World.{World};
 ghost use Rattle.link_loader.specs.Causes.{IsGiven, TellsCause};
 ghost use Rattle.link_loader.specs.Holds.{AreRulesOf, HoldsTexts, platform_of};
-ghost use Rattle.link_loader.specs.ReadTexts.{HasNames, names_in};
+ghost use Rattle.link_loader.specs.ReadTexts.{HasNames, names_in, script_taken, with_taken};
 
 use crate::reading::{exported_list, given_script, name_set};
 use crate::scripts::batch_script;
@@ -21,6 +21,7 @@ use link_rules::LinkError;
 use link_script::{Demangler, ExportList, UndefinedVersion, VersionScript};
 use std::alloc::{AllocError, Global};
 use std::marker::{Model, PhantomData};
+use std::mem;
 
 /// What the texts of a link on a platform say of names: its version script, and its export list with the forced export names.
 /// A contract sees what was read. Mirrors what Wild's `SymbolDb` keeps of them.
@@ -41,6 +42,25 @@ impl<P: Platform> Model for TextRules<P> {
     ghost Value = { ReadTexts };
 
     ghost view = { λ t. record { script = t.version_script; is_taken = t.is_taken; list = t.export_list } };
+
+    ghost invariant = { λ t. HasNames (names_in t.version_script) t.listed };
+}
+
+/// A version script that was read, with the names that it lists where it is of the Rust form, and whether a text of one was given. A
+/// contract sees the script, and whether one was given.
+#[derive(Drop)]
+pub struct TakenScript {
+    version_script: VersionScript,
+    listed: NameSet,
+    is_taken: bool,
+}
+
+impl Model for TakenScript {
+    ghost use Rattle.link_loader.specs.ReadTexts.{HasNames, TakenText, names_in};
+
+    ghost Value = { TakenText };
+
+    ghost view = { λ t. record { script = t.version_script; is_taken = t.is_taken } };
 
     ghost invariant = { λ t. HasNames (names_in t.version_script) t.listed };
 }
@@ -76,32 +96,47 @@ impl<P: Platform> TextRules<P> {
         })
     }
 
-    /// Takes the version script of a batch's linker scripts, of which the first has the place `first` among those of all batches.
-    /// Only one text may be taken, and only those of the first batch, which is the one that is not late.
-    ///
-    /// A refused call leaves all as it was.
-    pub fn take_scripts(
-        &mut self,
+    /// Reads the version script of a batch's linker scripts, of which the first has the place `first` among those of all batches. Only one
+    /// text may be taken, and only those of the first batch, which is the one that is not late. `None` where no linker script has one;
+    /// else the link has these texts once what was read is taken by `replace_script`.
+    pub fn read_scripts(
+        &self,
         alloc: Global,
         is_late: bool,
         first: usize,
         scripts: &[ProcessedLinkerScript],
-    ) -> Result<(), LinkError>
+    ) -> Result<Option<TakenScript>, LinkError>
         requires { first + length scripts.now < 2 ^ 64 }
-        ensures cause { TellsCause (linker_script_cause is_late self.old.is_taken first scripts.now) result }
-        ensures holds { OnOk result ((options : Options) (texts : Scripts) (before : List ProcessedLinkerScript)
-            → HoldsTexts (platform_of P.Platform) options texts before self.old
-            → HoldsTexts (platform_of P.Platform) options texts (before ++ scripts.now) self.new) }
-        ensures late { IsTrue is_late → self.new ≡ self.old }
-        ensures unchanged { OnErr result (self.new ≡ self.old) }
+        ensures cause { TellsCause (linker_script_cause is_late self.now.is_taken first scripts.now) result }
+        ensures holds { IfOk result (λ taken. (options : Options) (texts : Scripts) (before : List ProcessedLinkerScript)
+            → HoldsTexts (platform_of P.Platform) options texts before self.now
+            → HoldsTexts (platform_of P.Platform) options texts (before ++ scripts.now) (with_taken taken self.now)) }
+        ensures late { IsTrue is_late → IfOk result (λ taken. taken ≡ None) }
     {
-        let Some(script) = batch_script(alloc, is_late, self.is_taken, first, scripts)? else {
-            return Ok(());
-        };
-        self.listed = listed_names(alloc, &script)?;
-        self.version_script = script;
-        self.is_taken = true;
-        Ok(())
+        match batch_script(alloc, is_late, self.is_taken, first, scripts)? {
+            Some(script) => {
+                let listed = listed_names(alloc, &script)?;
+                Ok(Some(TakenScript {
+                    version_script: script,
+                    listed,
+                    is_taken: true,
+                }))
+            }
+            None => Ok(None),
+        }
+    }
+
+    /// Takes a version script in place of the one that there is, and answers that one. Who takes it again is where it was before. Takes no
+    /// memory.
+    pub fn replace_script(&mut self, script: TakenScript) -> TakenScript
+        ensures taken { self.new ≡ with_taken (Some script) self.old }
+        ensures before { result ≡ script_taken self.old }
+    {
+        TakenScript {
+            version_script: mem::replace(&mut self.version_script, script.version_script),
+            listed: mem::replace(&mut self.listed, script.listed),
+            is_taken: mem::replace(&mut self.is_taken, script.is_taken),
+        }
     }
 
     /// Whether the version script makes the name local.

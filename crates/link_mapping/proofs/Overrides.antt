@@ -149,7 +149,7 @@ override_named held names old new name id named over one lt =
     within n i false is = named.within n i is
 
 -- bytes are compared in either order
-bytes_turned : (a b : List ℕ) → bytes_eq a b ≡ bytes_eq b a
+pub bytes_turned : (a b : List ℕ) → bytes_eq a b ≡ bytes_eq b a
 bytes_turned a b = by (bytes_eq a b) refl (bytes_eq b a) refl
   where
     by : (p : Bool) → bytes_eq a b ≡ p → (q : Bool) → bytes_eq b a ≡ q → p ≡ q

@@ -3,6 +3,7 @@ use Rattle.std.specs.Prelude.{◌++◌, ℕ, List, [], ◌∷◌, Some, if◌the
 use Rattle.std.specs.Option.{option_and_then, option_map_or}
 use Rattle.link_buckets.specs.Keys.{Key, same_key}
 use Rattle.link_files.specs.HeldFiles.{names_in}
+use Rattle.link_groups.specs.declared.group.Group.{Group}
 use Rattle.link_rules.specs.Names.{mapping_with}
 use Rattle.link_mapping.specs.Keys.{plain_key}
 use Rattle.link_mapping.specs.Mapped.{Mapped, mapping_of}
@@ -10,6 +11,10 @@ use Rattle.link_mapping.specs.Mapped.{Mapped, mapping_of}
 -- one plain name is overridden
 abbrev pub with_override : {P : Type 0} → List ℕ → ℕ → Mapped P → Mapped P
 with_override name id m = record m { overridden = mapping_with name (Some id) m.overridden }
+
+-- one group of files more, with no symbols
+abbrev pub with_group : {P : Type 0} → Group P → Mapped P → Mapped P
+with_group group m = record m { files = record m.files { groups = m.files.groups ++ group ∷ [] } }
 
 -- the name under which a new symbol of this name is listed: that of the symbol to which the name is mapped, if it is
 abbrev pub listing_name : {P : Type 0} → Mapped P → List ℕ → List ℕ

@@ -3,4 +3,5 @@ pub mod Parts
 pub mod Tables
 pub mod Mapped
 pub mod Changes
+pub mod Batches
 pub mod Seen

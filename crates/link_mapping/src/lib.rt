@@ -1,10 +1,15 @@
 //! Which symbols define a name and what the name is mapped to, over the files that a link holds.
 #![tactic(auto)]
 
+mod adding;
 mod name_tables;
 mod overriding;
 mod parts;
+mod restoring;
 mod symbol_mapping;
+mod synthetic;
+#[cfg(test)]
+mod tests;
 mod wrapping;
 
 pub use symbol_mapping::SymbolMapping;

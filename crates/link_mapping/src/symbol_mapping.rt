@@ -22,10 +22,10 @@ pub struct SymbolMapping<P: Platform> {
 }
 
 impl<P: Platform> SymbolMapping<P> {
-    ghost use Rattle.std.specs.Prelude.{◌<◌, [], All, IfOk, IfSome, None, length};
+    ghost use Rattle.std.specs.Prelude.{◌<◌, [], All, IfOk, IfSome, None, length, take};
     ghost use Rattle.std.specs.Option.{option_map_or};
     ghost use Rattle.link_names.specs.NameHash.{fnv_1a};
-    ghost use Rattle.link_buckets.specs.Keys.{key_of};
+    ghost use Rattle.link_buckets.specs.Keys.{Key, key_of};
     ghost use Rattle.link_files.specs.HeldFiles.{names_in};
     ghost use Rattle.link_mapping.specs.Mapped.{later_in, mapped_key};
     ghost use Rattle.link_mapping.specs.Seen.{seen};
@@ -88,6 +88,16 @@ impl<P: Platform> SymbolMapping<P> {
             Some(definitions) => behind(definitions, id),
             None => &[],
         }
+    }
+
+    /// Gives up the definitions of each name behind its first, and their memory.
+    pub fn release_later(&mut self)
+        ensures lists { (seen self.new).lists ≡ (λ key. take 1 ((seen self.old).lists key)) }
+        ensures mapping { (key : Key) → mapped_key (seen self.new) key ≡ mapped_key (seen self.old) key }
+        ensures overridden { (seen self.new).overridden ≡ (seen self.old).overridden }
+        ensures files { (seen self.new).files ≡ (seen self.old).files }
+    {
+        self.buckets.release_later();
     }
 }
 

@@ -1,1 +1,3 @@
 pub mod Definitions
+pub mod Files
+pub mod Parts

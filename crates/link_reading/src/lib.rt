@@ -1,6 +1,17 @@
-//! The symbols of files as they are read, groups side by side: the flags of each, and the names that it defines.
+//! What is read of files, groups side by side: the flags of each symbol as its file is read, and the definitions of names that
+//! symbols give.
 #![tactic(auto)]
 
+mod files;
+mod group;
+mod groups;
+mod listing;
+mod loader;
 mod read_symbols;
+#[cfg(test)]
+mod tests;
 
+pub use group::read_group;
+pub use groups::read_groups;
+pub use loader::{DynamicObjectSymbolLoader, RegularObjectSymbolLoader, SymbolLoader};
 pub use read_symbols::ReadSymbols;

@@ -1,7 +1,11 @@
 //! What is read of symbols.
 
-use link_buckets::Definition;
+use crate::listing::Listing;
+use link_buckets::{Definition, Label};
 use link_flags::ValueFlags;
+use link_ids::SymbolId;
+use link_names::hash_bytes;
+use std::alloc::{AllocError, Global};
 
 /// What is read of the symbols of files that follow one another.
 #[derive(Drop)]
@@ -10,4 +14,52 @@ pub struct ReadSymbols {
     pub flags: Vec<ValueFlags>,
     /// The definitions of names, and of names with versions, in the order of the ids.
     pub definitions: Vec<Definition>,
+}
+
+impl ReadSymbols {
+    ghost use Rattle.std.specs.Prelude.{◌≡◌, ◌++◌, [], ◌∷◌, OnOk};
+    ghost use Rattle.link_input.specs.Symbols.{Symbol};
+    ghost use Rattle.link_rules.specs.Names.{is_listed, is_version_listed};
+    ghost use Rattle.link_reading.specs.Definitions.{definitions_by};
+    ghost use Rattle.link_reading.specs.Files.{numbers_of};
+
+    /// Nothing. Takes no memory.
+    pub fn new(alloc: Global) -> Self
+        ensures flags { result.flags.items ≡ [] }
+        ensures definitions { result.definitions.items ≡ [] }
+    {
+        ReadSymbols {
+            flags: Vec::new(alloc),
+            definitions: Vec::new(alloc),
+        }
+    }
+
+    /// Adds the next symbol. Its only refusal is want of memory.
+    pub(crate) fn add_symbol(
+        &mut self,
+        id: SymbolId,
+        name: &[u8],
+        flags: ValueFlags,
+        listing: Listing,
+    ) -> Result<(), AllocError>
+        ensures flags { OnOk result (numbers_of self.new.flags.items ≡ numbers_of self.old.flags.items ++ flags.0 ∷ []) }
+        ensures definitions { OnOk result ((x : Symbol) → x.name ≡ name.now → listing.plain ≡ is_listed x → listing.versioned ≡ is_version_listed x
+            → self.new.definitions.items ≡ self.old.definitions.items ++ definitions_by id x) }
+    {
+        self.flags.push(flags)?;
+        if !listing.plain && !listing.versioned {
+            return Ok(());
+        }
+        let id = id.as_usize() as u32;
+        let hash = hash_bytes(name);
+        if listing.plain {
+            let label = Label::Plain(id);
+            self.definitions.push(Definition { hash, label, id })?;
+        }
+        if listing.versioned {
+            let label = Label::Versioned(id);
+            self.definitions.push(Definition { hash, label, id })?;
+        }
+        Ok(())
+    }
 }

@@ -1,0 +1,16 @@
+use Rattle.std.proofs.Common.{◌≡◌, ◌++◌, drop, map}
+use Rattle.std.specs.List.{AllByRecursion, flat_map}
+use Rattle.link_groups.specs.Asked.{HasIdsForAll}
+use Rattle.link_groups.specs.Groups.{script_file}
+use Rattle.link_rules.specs.World.{Stage}
+use Rattle.link_reading.specs.Files.{file_definitions, file_flags, numbers_of}
+use Rattle.link_reading.proofs.group.load_scripts.Given as goal
+
+abbrev pub invariant-loop-script : goal.invariant-loop-script
+invariant-loop-script l = record {
+  tables : AllByRecursion HasIdsForAll (map script_file (drop l.script-index l.scripts));
+  definitions : l.read.definitions.items ++ flat_map file_definitions (map script_file (drop l.script-index l.scripts))
+      ≡ l.fn.read.definitions.items ++ flat_map file_definitions (map script_file l.scripts);
+  flags : (w : Stage) → numbers_of l.read.flags.items ++ flat_map (file_flags w) (map script_file (drop l.script-index l.scripts))
+      ≡ numbers_of l.fn.read.flags.items ++ flat_map (file_flags w) (map script_file l.scripts);
+}
