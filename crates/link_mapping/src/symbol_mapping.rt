@@ -30,7 +30,7 @@ impl<P: Platform> SymbolMapping<P> {
     ghost use Rattle.link_mapping.specs.Mapped.{later_in, mapped_key};
     ghost use Rattle.link_mapping.specs.Seen.{seen};
 
-    /// No files, and so many buckets for names.
+    /// No files, and so many buckets for names. The only refusal is want of memory.
     pub fn new(alloc: Global, buckets: usize) -> Result<Self, AllocError>
         requires { 0 < buckets }
         ensures files { IfOk result (λ m. (seen m).files ≡ record { groups = []; added = [] }) }
