@@ -1,9 +1,8 @@
 -- The groups of a batch behind those that are held, and what is read of them.
-use Rattle.std.proofs.Common.{◌≡◌, ◌+◌, ◌-◌, ◌<◌, ◌≤◌, ◌^◌, ◌++◌, ◌∙◌, ℕ, List, [], ◌∷◌, All, drop, length, map, refl, sym, ap, subst, arith, length-append}
-use Rattle.std.specs.List.{AllByRecursion, flat_map, range_with_len}
+use Rattle.std.proofs.Common.{◌≡◌, ◌+◌, ◌<◌, ◌^◌, ◌++◌, ◌∙◌, ℕ, List, [], ◌∷◌, drop, length, map, sym, ap, subst, arith, length-append}
+use Rattle.std.specs.List.{flat_map}
 use Rattle.std.proofs.Math.Seq.{drop-append_seam}
-use Rattle.std.proofs.lemmas.List.{length-map, map-append}
-use Rattle.link_input.specs.declared.options.Options.{Options}
+use Rattle.std.proofs.lemmas.List.{length-map}
 use Rattle.link_input.specs.InputFiles.{Batch}
 use Rattle.link_input.specs.SequencedFiles.{SequencedFile}
 use Rattle.link_input.specs.Symbols.{Symbol, symbols_of}
@@ -15,8 +14,8 @@ use Rattle.link_files.specs.GroupFiles.{AreGroupsOfLink, symbols_in}
 use Rattle.link_files.specs.HeldFiles.{HeldFiles, names_in}
 use Rattle.link_files.specs.Inputs.{objects_in}
 use Rattle.link_files.proofs.Batches.{of-link}
-use Rattle.link_files.proofs.Joining.{FollowOn, follow-on, symbols-join}
-use Rattle.link_files.proofs.Numbered.{id_count, id-count-append, tabled-count}
+use Rattle.link_files.proofs.Joining.{follow-on, symbols-join}
+use Rattle.link_files.proofs.Numbered.{tabled-count}
 use Rattle.link_rules.specs.Opening.{opening_flags}
 use Rattle.link_rules.specs.World.{Stage}
 use Rattle.link_mapping.specs.Batches.{symbols_behind}
@@ -59,8 +58,16 @@ names-grown {P} files new link =
     let joined = ap (λ (l : List Symbol). length l) (symbols-join files.groups new) in
     let named : length (map name all) ≡ length all = length-map all name in
     let held : length (map name (symbols_in files.groups)) ≡ length (symbols_in files.groups) = length-map (symbols_in files.groups) name in
-    omega (arith, length-append (map name all) files.added, length-append (map name (symbols_in files.groups)) files.added, named, held,
-    joined, length-append (symbols_in files.groups) (symbols_behind files.groups new), behind-count files.groups new (length (objects_in files.groups)) link)
+    omega (
+      arith,
+      length-append (map name all) files.added,
+      length-append (map name (symbols_in files.groups)) files.added,
+      named,
+      held,
+      joined,
+      length-append (symbols_in files.groups) (symbols_behind files.groups new),
+      behind-count files.groups new (length (objects_in files.groups)) link,
+    )
 
 -- no number of an id is too large
 pub names-fit : {P : Type 0} (files : HeldFiles P) (new : List (Group P)) → AreGroupsOfLink (files.groups ++ new) → length (names_in files) ≡ length (symbols_in files.groups)
@@ -68,8 +75,15 @@ pub names-fit : {P : Type 0} (files : HeldFiles P) (new : List (Group P)) → Ar
 names-fit {P} files new link tabled =
     let all = of-link (files.groups ++ new) link in
     let joined = ap (λ (l : List Symbol). length l) (symbols-join files.groups new) in
-    omega (arith, tabled, all.few, tabled-count 0 (flat_map (λ (g : Group P). files_of g) (files.groups ++ new)) all.tables, joined,
-    length-append (symbols_in files.groups) (symbols_behind files.groups new), behind-count files.groups new (length (objects_in files.groups)) link)
+    omega (
+      arith,
+      tabled,
+      all.few,
+      tabled-count 0 (flat_map (λ (g : Group P). files_of g) (files.groups ++ new)) all.tables,
+      joined,
+      length-append (symbols_in files.groups) (symbols_behind files.groups new),
+      behind-count files.groups new (length (objects_in files.groups)) link,
+    )
 
 -- what is read of their files is what their symbols define, with ids behind those of the symbols before
 pub definitions-behind : {P : Type 0} (files : HeldFiles P) (new : List (Group P)) → AreGroupsOfLink (files.groups ++ new) → length (names_in files) ≡ length (symbols_in files.groups)

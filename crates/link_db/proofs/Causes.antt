@@ -1,6 +1,6 @@
 -- Why the files of a batch are refused.
-use Rattle.std.proofs.Common.{rules, suc, ◌≡◌, ◌+◌, ◌<◌, ◌≤◌, ◌^◌, ◌==◌, ◌++◌, ◌∙◌, ℕ, Bool, true, false, List, [], ◌∷◌, Option, Some, None, Result, Ok, Err, refl, sym, ap, subst, arith, length, inl, inr}
-use Rattle.std.specs.Prelude.{not, IsTrue}
+use Rattle.std.proofs.Common.{rules, suc, ◌≡◌, ◌≤◌, ◌==◌, ◌∙◌, ℕ, Bool, false, List, [], ◌∷◌, Option, None, Result, Ok, Err, refl, sym, ap, subst, arith, length, inl, inr}
+use Rattle.std.specs.Prelude.{not}
 use Rattle.std.specs.List.{flat_map}
 use Rattle.std.specs.Result.{IsErr, IsErrAnd}
 use Rattle.std.specs.Option.{option_or}
@@ -9,8 +9,6 @@ use Rattle.link_input.specs.declared.world.ProcessedLinkerScript.{ProcessedLinke
 use Rattle.link_input.specs.InputFiles.{Batch}
 use Rattle.link_groups.specs.declared.group.Group.{Group}
 use Rattle.link_groups.specs.Held.{AreGroupsOf}
-use Rattle.link_groups.specs.Groups.{files_of}
-use Rattle.link_input.specs.SequencedFiles.{SequencedFile}
 use Rattle.link_files.specs.Inputs.{scripts_in}
 use Rattle.link_files.proofs.Joining.{scripts-of-batches}
 use Rattle.link_rules.specs.declared.refusal.LinkError.{LinkError}

@@ -1,12 +1,12 @@
 -- How many symbols groups have.
-use Rattle.std.proofs.Common.{◌≡◌, ◌+◌, ◌<◌, ◌++◌, ◌∙◌, ℕ, List, [], ◌∷◌, length, map, refl, sym, ap, subst, arith}
+use Rattle.std.proofs.Common.{◌≡◌, ◌+◌, ◌++◌, ◌∙◌, ℕ, List, [], ◌∷◌, length, map, refl, ap, arith}
 use Rattle.std.specs.List.{AllByRecursion, flat_map}
 use Rattle.link_ids.specs.Span.{Span}
 use Rattle.link_input.specs.SequencedFiles.{SequencedFile}
 use Rattle.link_input.specs.Symbols.{symbols_of}
 use Rattle.link_groups.specs.declared.group.Group.{Group}
 use Rattle.link_groups.specs.declared.group.Group.TheVariants as group
-use Rattle.link_groups.specs.Asked.{AllCanBeAsked, CanBeAsked, HasIdsForAll}
+use Rattle.link_groups.specs.Asked.{AllCanBeAsked, HasIdsForAll}
 use Rattle.link_groups.specs.Groups.{files_of, length_of_spans, object_file, script_file, stub_file, symbol_spans}
 use Rattle.link_files.specs.GroupFiles.{symbols_in}
 use Rattle.link_files.specs.Numbered.{spans_of}

@@ -5,6 +5,7 @@ pub mod FreedNames
 pub mod GroupCounts
 pub mod Ids
 pub mod LastEntry
+pub mod LinkerGroups
 pub mod Lookups
 pub mod SameMapping
 pub mod Walked

@@ -1,5 +1,5 @@
 -- A symbol that the linker makes.
-use Rattle.std.specs.Prelude.{ℕ, List, [], ◌∷◌, ◌++◌, length}
+use Rattle.std.specs.Prelude.{ℕ, [], ◌∷◌, ◌++◌, length}
 use Rattle.link_files.specs.Adding.{with_symbol}
 use Rattle.link_mapping.specs.Changes.{listed_under, listing_name}
 use Rattle.link_mapping.specs.Mapped.{Mapped}

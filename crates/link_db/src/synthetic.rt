@@ -20,6 +20,13 @@ impl<P: Platform> SymbolDb<P> {
     ghost use Rattle.link_db.specs.Seen.{seen};
     ghost use Rattle.link_db.specs.Synthetic.{with_linker_symbol};
 
+    /// Makes room for groups. All is as before, where there is room and where there is not.
+    pub fn groups_reserve(&mut self, count: usize) -> Result<(), AllocError>
+        ensures { seen self.new ≡ seen self.old }
+    {
+        self.mapping.groups_reserve(count)
+    }
+
     /// Adds a group of files without symbols, which have the ids of the next group's files. A refused call, for want of memory, leaves all as
     /// it was.
     pub fn add_group(&mut self, alloc: Global, group: Group<P>) -> Result<(), AllocError>
@@ -27,7 +34,8 @@ impl<P: Platform> SymbolDb<P> {
         ensures ok { OnOk result (seen self.new ≡ record (seen self.old) { mapping = with_group group (seen self.old).mapping }) }
         ensures err { OnErr result (seen self.new ≡ seen self.old) }
     {
-        self.mapping.add_group(alloc, group)
+        self.mapping.add_group(alloc, group)?;
+        Ok(())
     }
 
     /// Adds the group of the symbols that the linker makes, of which there is none yet, and answers the id of its file. A refused call, for want
@@ -38,7 +46,8 @@ impl<P: Platform> SymbolDb<P> {
         ensures ok { OnOk result (seen self.new ≡ record (seen self.old) { mapping = with_group (synthetic_group (seen self.old).mapping.files) (seen self.old).mapping }) }
         ensures err { OnErr result (seen self.new ≡ seen self.old) }
     {
-        self.mapping.add_synthetic_group(alloc)
+        let file = self.mapping.add_synthetic_group(alloc)?;
+        Ok(file)
     }
 
     /// Adds a symbol to the last group, which needs to be that of the symbols that the linker makes, and answers its id. The symbol is its own

@@ -17,6 +17,13 @@ impl<P: Platform> SymbolMapping<P> {
     ghost use Rattle.link_mapping.specs.Changes.{listed_under, listing_name, with_group};
     ghost use Rattle.link_mapping.specs.Seen.{seen};
 
+    /// Makes room for groups. All is as before, where there is room and where there is not. Mirrors Wild's `SymbolDb::groups_reserve`.
+    pub fn groups_reserve(&mut self, count: usize) -> Result<(), AllocError>
+        ensures { seen self.new ≡ seen self.old }
+    {
+        self.tables.files.groups_reserve(count)
+    }
+
     /// Adds a group of files without symbols, which have the ids of the next group's files. Mirrors Wild's `SymbolDb::add_group`.
     ///
     /// After a refusal, which is want of memory, all is as before.

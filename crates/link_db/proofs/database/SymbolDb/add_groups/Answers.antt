@@ -1,5 +1,5 @@
-use Rattle.std.proofs.Common.{drop, ◌≡◌, ◌+◌, ◌-◌, ◌<◌, ◌≤◌, ◌^◌, ◌++◌, ◌∙◌, ℕ, List, All, Fits, w64, refl, sym, ap, subst, arith, length, map}
-use Rattle.std.specs.List.{flat_map, range_with_len}
+use Rattle.std.proofs.Common.{drop, ◌≡◌, ◌+◌, ◌<◌, ◌++◌, ◌∙◌, ℕ, List, All, refl, sym, ap, subst, arith, length, map}
+use Rattle.std.specs.List.{flat_map}
 use Rattle.link_flags.specs.FlagWords.{words_of}
 use Rattle.link_groups.specs.declared.group.Group.{Group}
 use Rattle.link_groups.specs.Asked.{AllCanBeAsked}
@@ -77,10 +77,13 @@ invariant_of-self-in_default g c =
     (length (names_in files)) (length (symbols_in gs)) c.in_ok-append.ensures.items c.in_ok-entries.ensures held more in
     record {
       sound = record {
-        some = sound.some; few = sound.few; some_files = sound.some_files; few_files = sound.few_files;
+        some = sound.some;
+        few = sound.few;
+        some_files = sound.some_files;
+        few_files = sound.few_files;
         within = subst (λ (n : ℕ). All (λ e. e < n) c.append.new.self.items) (sym total)
-        (subst (λ (xs : List ℕ). All (λ e. e < length (names_in files) + length (symbols_in gs)) xs) (sym rows)
-        (grown-within (length (names_in files)) (length (symbols_in gs)) c.args.self.now.table.items sound.within));
+            (subst (λ (xs : List ℕ). All (λ e. e < length (names_in files) + length (symbols_in gs)) xs) (sym rows)
+            (grown-within (length (names_in files)) (length (symbols_in gs)) c.args.self.now.table.items sound.within));
       };
     }
 

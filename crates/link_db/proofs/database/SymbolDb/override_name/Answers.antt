@@ -1,4 +1,4 @@
-use Rattle.std.proofs.Common.{◌≡◌, ◌∙◌, ap}
+use Rattle.std.proofs.Common.{◌∙◌, ap}
 use Rattle.link_mapping.specs.Mapped.{Mapped, mapping_of}
 use Rattle.link_mapping.proofs.Wraps.{override_maps}
 use Rattle.link_rules.specs.Names.{Mapping}

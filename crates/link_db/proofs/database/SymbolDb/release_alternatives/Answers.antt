@@ -1,4 +1,4 @@
-use Rattle.std.proofs.Common.{◌≡◌, ap, take}
+use Rattle.std.proofs.Common.{ap, take}
 use Rattle.link_mapping.specs.Mapped.{Mapped}
 use Rattle.link_mapping.specs.Seen as names
 use Rattle.link_db.specs.Seen.{seen}
