@@ -1,5 +1,6 @@
-use Rattle.std.proofs.Common.{drop, ◌≡◌, ◌+◌, ◌<◌, ◌++◌, ◌∙◌, ℕ, List, All, refl, sym, ap, subst, arith, length, map}
-use Rattle.std.specs.List.{flat_map}
+use Rattle.std.proofs.Common.{length-append, drop, ◌≡◌, ◌+◌, ◌<◌, ◌++◌, ◌∙◌, ℕ, List, All, refl, sym, ap, subst, arith, length, map}
+use Rattle.std.proofs.lemmas.List.FromFn.{length-range_with_len}
+use Rattle.std.specs.List.{flat_map, range_with_len}
 use Rattle.link_flags.specs.FlagWords.{words_of}
 use Rattle.link_groups.specs.declared.group.Group.{Group}
 use Rattle.link_groups.specs.Asked.{AllCanBeAsked}
@@ -103,6 +104,7 @@ returns-clause-grown g c =
       workers = refl;
       overridden = c.in_default.ensures.overridden;
       table = rows ∙ table-counted c.args.self.now.table.items (length (names_in files)) (length (symbols_in gs)) (length (names_in (names.seen c.add_groups.new.self).files)) whole total;
+      whole = omega (arith, ap (λ (l : List ℕ). length l) rows, length-append c.args.self.now.table.items (range_with_len (length (names_in files)) (length (symbols_in gs))), length-range_with_len (length (names_in files)) (length (symbols_in gs)), whole, total);
     }
 
 pub returns-clause-flags : goal.returns-clause-flags
