@@ -2,7 +2,7 @@
 use Rattle.std.proofs.Common.{◌≡◌, ◌+◌, ◌<◌, ◌^◌, ◌++◌, ◌∙◌, ℕ, List, [], ◌∷◌, drop, length, map, sym, ap, subst, arith, length-append}
 use Rattle.std.specs.List.{flat_map}
 use Rattle.std.proofs.Math.Seq.{drop-append_seam}
-use Rattle.std.proofs.lemmas.List.{length-map}
+use Rattle.std.proofs.lemmas.List.{length-map, nil_from_length}
 use Rattle.link_input.specs.InputFiles.{Batch}
 use Rattle.link_input.specs.SequencedFiles.{SequencedFile}
 use Rattle.link_input.specs.Symbols.{Symbol, symbols_of}
@@ -14,15 +14,14 @@ use Rattle.link_files.specs.GroupFiles.{AreGroupsOfLink, symbols_in}
 use Rattle.link_files.specs.HeldFiles.{HeldFiles, names_in}
 use Rattle.link_files.specs.Inputs.{objects_in}
 use Rattle.link_files.proofs.Batches.{of-link}
-use Rattle.link_files.proofs.Joining.{follow-on, symbols-join}
+use Rattle.link_files.proofs.Joining.{symbols-join}
 use Rattle.link_files.proofs.Numbered.{tabled-count}
 use Rattle.link_rules.specs.Opening.{opening_flags}
 use Rattle.link_rules.specs.World.{Stage}
 use Rattle.link_mapping.specs.Batches.{symbols_behind}
-use Rattle.link_reading.specs.Definitions.{definitions_from}
-use Rattle.link_reading.specs.Files.{AllCanBeRead, file_definitions, file_flags}
+use Rattle.link_reading.specs.Files.{AllCanBeRead, file_flags}
 use Rattle.link_reading.proofs.Parts.{all_can_be_read}
-use Rattle.link_reading.proofs.Runs.{all-definitions, all-flags}
+use Rattle.link_reading.proofs.Runs.{all-flags}
 use Rattle.link_db.proofs.GroupCounts.{asked-count}
 
 -- of groups that can be asked the last ones can
@@ -85,15 +84,14 @@ names-fit {P} files new link tabled =
       behind-count files.groups new (length (objects_in files.groups)) link,
     )
 
--- what is read of their files is what their symbols define, with ids behind those of the symbols before
-pub definitions-behind : {P : Type 0} (files : HeldFiles P) (new : List (Group P)) → AreGroupsOfLink (files.groups ++ new) → length (names_in files) ≡ length (symbols_in files.groups)
-    → flat_map file_definitions (flat_map (λ (g : Group P). files_of g) new) ≡ definitions_from (length (names_in files)) (symbols_behind files.groups new)
-definitions-behind {P} files new link tabled =
-    let follow = follow-on files.groups new link in
-    all-definitions (length (symbols_in files.groups)) (length (objects_in files.groups)) (flat_map (λ (g : Group P). files_of g) new) follow.runs follow.tables
-    ∙ ap (λ (n : ℕ). definitions_from n (symbols_behind files.groups new)) (sym tabled)
+-- before the groups of a batch the linker has added no symbol
+pub none-added : {P : Type 0} (files : HeldFiles P) → length (names_in files) ≡ length (symbols_in files.groups) → files.added ≡ []
+none-added {P} files tabled =
+    let name = λ (x : Symbol). x.name in
+    let held : length (map name (symbols_in files.groups)) ≡ length (symbols_in files.groups) = length-map (symbols_in files.groups) name in
+    nil_from_length files.added (omega (arith, tabled, held, length-append (map name (symbols_in files.groups)) files.added))
 
--- and their flags are the opening flags of the symbols behind those before
+-- the flags that are read of groups are the opening flags of the symbols behind those before
 pub flags-behind : {P : Type 0} (w : Stage) (old new : List (Group P))
     → flat_map (file_flags w) (flat_map (λ (g : Group P). files_of g) new) ≡ map (opening_flags w) (drop (length (symbols_in old)) (symbols_in (old ++ new)))
 flags-behind {P} w old new =

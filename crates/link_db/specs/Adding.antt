@@ -33,13 +33,14 @@ inputs_cause db batches b = first_cause
     (linker_script_cause (not (is_empty batches)) db.rules.is_taken (length (flat_map (λ x. x.scripts) batches)) b.scripts
     ∷ too_many (first_excess (counts_of db.options (batches ++ b ∷ []))) ∷ [])
 
--- more symbols: the table has an entry for each, of which each new one points to itself, and no name is overridden; options and workers are as before
+-- more symbols: the table has an entry for each, of which each new one points to itself, and no name is overridden; options and workers are as before, and the linker has added no symbol
 pub record IsGrown {P : Type 0} (old new : Database P) : Type 0 where
   pub options : new.options ≡ old.options
   pub workers : new.workers ≡ old.workers
   pub overridden : new.mapping.overridden ≡ (λ name. None)
   pub table : new.table ≡ old.table ++ range_with_len (length old.table) (length (symbol_names new) - length old.table)
   pub whole : HasTable new
+  pub added : new.mapping.files.added ≡ old.mapping.files.added
 
 -- the new symbols have their opening flags behind the words that there were
 abbrev pub HaveOpeningFlags : {P : Type 0} → Stage → Database P → Database P → List RawFlags → List RawFlags → Type 0

@@ -49,7 +49,8 @@ impl<P: Platform + Sync> SymbolDb<P> {
     ghost use Rattle.link_db.specs.Seen.{seen};
 
     /// Adds the files of a batch behind those of the batches before it; their groups are read side by side. Each name is mapped to its first
-    /// definition again, and each new symbol points to itself. `flags` has a word for each symbol, before and after.
+    /// definition again, and each new symbol points to itself. `flags` needs a word for each symbol; those of the new symbols come behind
+    /// them.
     ///
     /// It is refused with the first cause, in this order: the version text of a linker script, and more of something than ids can name; and
     /// with `Memory`. Then database and flags are as before.

@@ -8,7 +8,7 @@ use Rattle.link_groups.specs.declared.group.Group.{Group}
 use Rattle.link_files.specs.Inputs.{scripts_in}
 use Rattle.link_rules.specs.Places.{Bytes, last_of}
 use Rattle.link_db.proofs.LastEntry.{last-joined, scripts-first}
-use Rattle.link_db.proofs.Walked.{next-rest}
+use Rattle.link_loader.proofs.Forced.{rest_is}
 use Rattle.link_db.proofs.entry.entry_of_scripts.Goals as goal
 
 -- one group more
@@ -19,7 +19,7 @@ loop-group-preserved g c =
     let group = c.group-item.result in
     let left = drop (i + 1) groups in
     let entries = filter_map (λ (x : ProcessedLinkerScript). x.entry) in
-    let next : drop i groups ≡ group ∷ left = next-rest groups i group c.loop-group-test.true c.group-item.is in
+    let next : drop i groups ≡ group ∷ left = rest_is groups i group c.loop-group-test.true c.group-item.is in
     let before = option_map (λ n. n.now) c.loop-group.last in
     let own = entries (scripts_in (group ∷ [])) in
     let last : option_map (λ n. n.now) c.last_entry-last.result ≡ option_or (last_of own) before =

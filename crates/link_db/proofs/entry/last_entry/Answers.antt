@@ -6,7 +6,7 @@ use Rattle.link_input.specs.declared.world.ProcessedLinkerScript.{ProcessedLinke
 use Rattle.link_groups.specs.declared.sequenced.SequencedLinkerScript.{SequencedLinkerScript}
 use Rattle.link_rules.specs.Places.{last_of}
 use Rattle.link_db.proofs.LastEntry.{last-in-front}
-use Rattle.link_db.proofs.Walked.{next-rest}
+use Rattle.link_loader.proofs.Forced.{rest_is}
 use Rattle.link_db.proofs.entry.last_entry.Goals as goal
 
 -- one linker script more
@@ -17,7 +17,7 @@ loop-script-preserved c =
     let s = c.script-item.result in
     let entries = λ (l : List SequencedLinkerScript). filter_map (λ (x : ProcessedLinkerScript). x.entry) (map (λ (x : SequencedLinkerScript). x.parsed) l) in
     let rest = entries (drop (i + 1) scripts) in
-    let next : drop i scripts ≡ s ∷ drop (i + 1) scripts = next-rest scripts i s c.loop-script-test.true c.script-item.is in
+    let next : drop i scripts ≡ s ∷ drop (i + 1) scripts = rest_is scripts i s c.loop-script-test.true c.script-item.is in
     let before = option_map (λ n. n.now) c.loop-script.last in
     let last : option_map (λ n. n.now) c.or-last.result ≡ option_or s.parsed.entry before = search rules in
     ap (option_or (last_of rest)) last ∙ sym (last-in-front s.parsed.entry rest before)

@@ -1,4 +1,4 @@
-use Rattle.std.proofs.Common.{◌≡◌, ◌<◌, [], ap, arith}
+use Rattle.std.proofs.Common.{[], ap, arith}
 use Rattle.link_db.specs.Database.{Database}
 use Rattle.link_db.proofs.tests.with_inputs.Goals as goal
 

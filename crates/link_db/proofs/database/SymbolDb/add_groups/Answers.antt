@@ -8,6 +8,7 @@ use Rattle.link_files.specs.HeldFiles.{HeldFiles, names_in}
 use Rattle.link_files.specs.GroupFiles.{symbols_in}
 use Rattle.link_loader.specs.Holds.{platform_of}
 use Rattle.link_mapping.specs.Seen as names
+use Rattle.link_mapping.proofs.Batches.{read_behind}
 use Rattle.link_reading.specs.declared.read_symbols.ReadSymbols.{ReadSymbols}
 use Rattle.link_reading.specs.Files.{AllCanBeRead, IsStageBy, file_definitions, file_flags}
 use Rattle.link_groups.specs.Groups.{files_of}
@@ -15,7 +16,7 @@ use Rattle.link_rules.specs.Opening.{opening_flags}
 use Rattle.link_db.specs.Adding.{flags_in}
 use Rattle.link_db.specs.RustForm.{numbers_of}
 use Rattle.link_db.specs.Seen.{seen}
-use Rattle.link_db.proofs.Batches.{can-be-asked, can-be-read, definitions-behind, flags-behind, names-fit, names-grown, tabled-names}
+use Rattle.link_db.proofs.Batches.{can-be-asked, can-be-read, flags-behind, names-fit, names-grown, none-added, tabled-names}
 use Rattle.link_db.proofs.Ids.{grown-within, table-counted, table-grown}
 use Rattle.link_db.proofs.database.SymbolDb.add_groups.Goals as goal
 
@@ -62,7 +63,7 @@ add_groups-requires-clause-parts g c =
     ap (flat_map (λ (p : ReadSymbols). p.definitions.items)) c.as_slice-4.ensures.value
     ∙ c.in_ok-parts.ensures.definitions
     ∙ ap (λ (gs : List (Group g.row.P.Denot)). flat_map file_definitions (flat_map (λ (k : Group g.row.P.Denot). files_of k) gs)) c.as_slice-2.ensures.value
-    ∙ definitions-behind files c.args.groups.items c.requires.groups tabled
+    ∙ read_behind files c.args.groups.items c.requires.groups (none-added files tabled)
 
 -- the table has the entries of before, and those of the new symbols
 pub invariant_of-self-in_default : goal.invariant_of-self-in_default
@@ -105,6 +106,7 @@ returns-clause-grown g c =
       overridden = c.in_default.ensures.overridden;
       table = rows ∙ table-counted c.args.self.now.table.items (length (names_in files)) (length (symbols_in gs)) (length (names_in (names.seen c.add_groups.new.self).files)) whole total;
       whole = omega (arith, ap (λ (l : List ℕ). length l) rows, length-append c.args.self.now.table.items (range_with_len (length (names_in files)) (length (symbols_in gs))), length-range_with_len (length (names_in files)) (length (symbols_in gs)), whole, total);
+      added = ap (λ (f : HeldFiles g.row.P.Denot). f.added) c.in_default.ensures.files;
     }
 
 pub returns-clause-flags : goal.returns-clause-flags

@@ -7,7 +7,7 @@ use Rattle.link_db.specs.RustScript.{freed_by, freed_symbols}
 use Rattle.link_db.specs.Seen.{seen}
 use Rattle.link_db.proofs.Freed.{freed-none}
 use Rattle.link_db.proofs.FreedNames.{freed-named}
-use Rattle.link_db.proofs.Walked.{next-rest}
+use Rattle.link_loader.proofs.Forced.{rest_is}
 use Rattle.link_db.proofs.database.SymbolDb.free_names.Goals as goal
 
 -- one name more is freed
@@ -19,7 +19,7 @@ loop-name-preserved g c =
     let name = c.name-item.result in
     let rest = drop (i + 1) names in
     let words = numbers_of (words_of c.loop-name.flags) in
-    let next : drop i names ≡ name ∷ rest = next-rest names i name c.loop-name-test.true c.name-item.is in
+    let next : drop i names ≡ name ∷ rest = rest_is names i name c.loop-name-test.true c.name-item.is in
     let after : numbers_of (words_of c.free_name.new.flags) ≡ each_from (freed (freed_by db name)) 0 words =
     c.free_name.ensures.numbers ∙ ap (λ (n : Bytes). each_from (freed (freed_by db n)) 0 words) c.as_slice.ensures in
     let here : each_from (freed (freed_symbols db (name ∷ rest))) 0 words ≡ each_from (freed (freed_symbols db names)) 0 (numbers_of (words_of c.args.flags.now)) =
