@@ -1,0 +1,5 @@
+use Rattle.link_stage.proofs.Mappings.{comes-to}
+use Rattle.link_stage.proofs.a_database_comes_to_its_stage.Goals as goal
+
+pub returns : goal.returns
+returns c = comes-to

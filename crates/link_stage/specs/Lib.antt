@@ -1,0 +1,2 @@
+pub mod AtStage
+pub mod SameNames
