@@ -1,0 +1,12 @@
+-- What is looked up for each symbol of a link.
+use Rattle.std.specs.Prelude.{ℕ, ◌≡◌, List, Option}
+use Rattle.link_input.specs.Symbols.{Symbol}
+use Rattle.link_rules.specs.Names.{Mapping, first_definition}
+use Rattle.link_rules.specs.Places.{Bytes}
+use Rattle.link_rules.specs.Selection.{Selection}
+
+-- what follows for these symbols, where names are mapped so and these are the targets of loaded references
+pub record IsSelectionOf (symbols : List Symbol) (mapping : Mapping) (targets : List (Option ℕ)) (l : Selection) : Type 0 where
+  pub symbols_are : l.stage.symbols ≡ symbols
+  pub names_are : (name : Bytes) → first_definition l.stage name ≡ mapping name
+  pub targets_are : l.targets ≡ targets
