@@ -9,3 +9,5 @@ pub mod Walking
 pub mod Returning
 pub mod Scanning
 pub mod Releasing
+pub mod Made
+pub mod Labels

@@ -18,7 +18,7 @@ use Rattle.link_buckets.proofs.Search.{named_only}
 use Rattle.link_buckets.proofs.Walking.{settled_head}
 
 -- what is found stands somewhere
-found_somewhere : {A : Type 0} (p : A → Bool) (xs : List A) (x : A) → find p xs ≡ Some x → (at : ℕ) × (slice_get xs at ≡ Some x)
+pub found_somewhere : {A : Type 0} (p : A → Bool) (xs : List A) (x : A) → find p xs ≡ Some x → (at : ℕ) × (slice_get xs at ≡ Some x)
 found_somewhere p [] x e = absurd cc
 found_somewhere {A} p (y ∷ xs) x e = by (p y) e (found_somewhere p xs x)
   where

@@ -1,5 +1,5 @@
 -- The heads of a bucket.
-use Rattle.std.specs.Prelude.{◌≡◌, ◌-◌, ◌&&◌, ℕ, Bool, IsTrue, List, [], Option, Some, find, is_some, length, map, option_map, slice_get, take, unwrap_or}
+use Rattle.std.specs.Prelude.{◌≡◌, ◌-◌, ◌&&◌, ℕ, Bool, IsTrue, List, [], Option, Some, filter_map, find, is_some, length, map, option_map, slice_get, take, unwrap_or}
 use Rattle.std.specs.Option.{option_or}
 use Rattle.link_buckets.specs.declared.label.Label.{Label}
 use Rattle.link_buckets.specs.declared.head.Head.{Head}
@@ -27,6 +27,10 @@ hashes_of heads = map (λ h. h.hash) heads
 -- it is mapped to something: another head is not in use, and stands for no name
 abbrev pub is_used : Head → Bool
 is_used h = is_some (mapped_of h)
+
+-- the label of each head in use, with what the head is mapped to
+abbrev pub mapped_labels : List Head → List (Label × ℕ)
+mapped_labels heads = filter_map (λ h. option_map (λ id. (h.label, id)) (mapped_of h)) heads
 
 -- it is in use, and its label leads to the key
 abbrev pub is_head : (Label → Option Key) → Key → Head → Bool

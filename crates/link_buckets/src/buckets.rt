@@ -8,6 +8,7 @@ use crate::bucket::Bucket;
 use crate::definition::Definition;
 use crate::head::Definitions;
 use crate::label::{Label, Names};
+use crate::mapped_labels::MappedLabels;
 use std::alloc::{AllocError, Global};
 
 /// Names in buckets by their hash numbers. What is said of a name is the same for every number of buckets.
@@ -18,7 +19,7 @@ pub struct Buckets {
 }
 
 impl Buckets {
-    ghost use Rattle.std.specs.Prelude.{◌≡◌, ◌++◌, [], ◌∷◌, ◌%◌, ℕ, Option, None, Some, is_some, IsTrue, IfOk, OnOk, OnErr, length, take, if◌then◌else◌};
+    ghost use Rattle.std.specs.Prelude.{◌≡◌, ◌≢◌, ◌++◌, [], ◌∷◌, ◌%◌, ℕ, All, AllPairs, Contains, Option, None, Some, is_some, IsSomeAnd, IsTrue, IfOk, OnOk, OnErr, length, take, if◌then◌else◌};
     ghost use Rattle.std.specs.Option.{option_map_or, option_or};
     ghost use Rattle.link_names.specs.NameHash.{fnv_1a};
     ghost use Rattle.link_buckets.specs.declared.label.Label.{Label};
@@ -47,6 +48,17 @@ impl Buckets {
         ensures { result.now ≡ buckets_in self.now }
     {
         self.buckets.as_slice()
+    }
+
+    /// A label of each name that is mapped to something, with what it is mapped to. The order is that of the buckets, and no clause tells it.
+    pub fn mapped_labels(&self) -> MappedLabels<'_>
+        ensures mapped { (names : Label → Option Key) → AreKeyed names self.now
+            → All (λ pair. IsSomeAnd (names pair.0) (λ key. mapped_at names self.now key ≡ Some pair.1)) result }
+        ensures complete { (names : Label → Option Key) (key : Key) (id : ℕ) → AreKeyed names self.now → mapped_at names self.now key ≡ Some id
+            → (label : Label) × (names label ≡ Some key) × Contains result (label, id) }
+        ensures once { (names : Label → Option Key) → AreKeyed names self.now → AllPairs (λ a b. names a.0 ≢ names b.0) result }
+    {
+        MappedLabels::new(self.buckets.as_slice())
     }
 
     /// The place of a hash number's bucket.

@@ -8,6 +8,7 @@ mod definition;
 mod head;
 mod label;
 mod laws;
+mod mapped_labels;
 mod places;
 #[cfg(test)]
 mod tests;
@@ -21,3 +22,4 @@ pub use laws::{
     buckets_do_not_show, growing_tables_keep_a_bucket, growing_tables_keep_buckets,
     heads_are_names, tables_go_back,
 };
+pub use mapped_labels::MappedLabels;

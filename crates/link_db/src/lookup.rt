@@ -5,13 +5,15 @@ use crate::key::SymbolKey;
 use crate::picking::pick_unshared;
 use link_ids::SymbolId;
 use link_input::Platform;
+use link_mapping::MappedNames;
 use link_names::hash_bytes;
 
 impl<P: Platform> SymbolDb<P> {
-    ghost use Rattle.std.specs.Prelude.{◌≡◌, ◌<◌, ◌||◌, IfSome, length, not};
+    ghost use Rattle.std.specs.Prelude.{◌≡◌, ◌≢◌, ◌<◌, ◌||◌, ℕ, All, AllPairs, Contains, IfSome, Some, length, not};
     ghost use Rattle.link_flags.specs.Pick.{pick};
     ghost use Rattle.link_files.specs.HeldFiles.{is_shared_in};
     ghost use Rattle.link_mapping.specs.Mapped.{mapping_of};
+    ghost use Rattle.link_rules.specs.Places.{Bytes};
     ghost use Rattle.link_rules.specs.Targets.{mapped_in, target_in, unshared_in};
     ghost use Rattle.link_db.specs.Database.{name_table_of, symbol_names};
     ghost use Rattle.link_db.specs.Seen.{seen};
@@ -53,6 +55,17 @@ impl<P: Platform> SymbolDb<P> {
         ensures within { IfSome result (λ id. id < length (symbol_names (seen self.now))) }
     {
         self.mapping.mapped(hash_bytes(name), name, None)
+    }
+
+    /// Each name that is mapped to a symbol, with the symbol: names without a version alone, in no promised order. Mirrors Wild's
+    /// `SymbolDb::all_unversioned_symbols`.
+    pub fn all_unversioned_symbols(&self) -> MappedNames<'_, P>
+        ensures mapped { All (λ pair. mapping_of (seen self.now).mapping pair.0 ≡ Some pair.1) result }
+        ensures complete { (name : Bytes) (id : ℕ) → mapping_of (seen self.now).mapping name ≡ Some id → Contains result (name, id) }
+        ensures once { AllPairs (λ a b. a.0 ≢ b.0) result }
+        ensures within { All (λ pair. pair.1 < length (symbol_names (seen self.now))) result }
+    {
+        self.mapping.mapped_names()
     }
 
     /// The pick of the later definitions of a symbol's name that are not shared.

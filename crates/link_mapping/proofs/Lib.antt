@@ -6,3 +6,4 @@ pub mod Wraps
 pub mod Grown
 pub mod Batches
 pub mod Synthetics
+pub mod Named

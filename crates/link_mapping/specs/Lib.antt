@@ -5,3 +5,4 @@ pub mod Mapped
 pub mod Changes
 pub mod Batches
 pub mod Seen
+pub mod PlainNames

@@ -2,6 +2,7 @@
 #![tactic(auto)]
 
 mod adding;
+mod mapped_names;
 mod name_tables;
 mod overriding;
 mod parts;
@@ -12,4 +13,5 @@ mod synthetic;
 mod tests;
 mod wrapping;
 
+pub use mapped_names::MappedNames;
 pub use symbol_mapping::SymbolMapping;

@@ -4,13 +4,14 @@ ghost use Rattle.std.specs.Prelude.{◌≡◌, Option, option_map, slice_get};
 ghost use Rattle.std.specs.Option.{option_eq};
 ghost use Rattle.std.specs.Str.{bytes_eq};
 ghost use Rattle.link_files.specs.HeldFiles.{names_in};
+ghost use Rattle.link_mapping.specs.PlainNames.{plain_name};
 ghost use Rattle.link_mapping.specs.Tables.{key_at};
 
 use link_buckets::{Label, Names};
 use link_files::Files;
 use link_ids::SymbolId;
 use link_input::Platform;
-use link_names::Name;
+use link_names::{Name, NameView};
 
 /// The files with the names of their symbols, and the names that were overridden.
 #[derive(Drop)]
@@ -58,6 +59,16 @@ impl<P: Platform> NameTables<P> {
                 let name = self.overridden.get(place as usize)?;
                 Some((name.as_slice(), None))
             }
+        }
+    }
+
+    /// The name to which the label leads, where it leads to one without a version.
+    pub(crate) fn plain_name(&self, label: Label) -> Option<NameView<'_>>
+        ensures { result ≡ plain_name (key_at self.now.files self.now.overridden.items) label }
+    {
+        match self.key(label) {
+            Some((name, None)) => Some(NameView::new(name)),
+            _ => None,
         }
     }
 }

@@ -4,6 +4,7 @@ ghost use Rattle.std.specs.Prelude.{◌≡◌};
 ghost use Rattle.link_rules.specs.Places.{behind_head};
 ghost use Rattle.link_mapping.specs.Tables.{AreNamed};
 
+use crate::mapped_names::MappedNames;
 use crate::name_tables::NameTables;
 use link_buckets::{Buckets, Definitions};
 use link_files::Files;
@@ -22,12 +23,12 @@ pub struct SymbolMapping<P: Platform> {
 }
 
 impl<P: Platform> SymbolMapping<P> {
-    ghost use Rattle.std.specs.Prelude.{◌<◌, [], All, IfOk, IfSome, None, length, take};
+    ghost use Rattle.std.specs.Prelude.{◌<◌, ◌≢◌, ℕ, [], List, All, AllPairs, Contains, IfOk, IfSome, None, Some, length, take};
     ghost use Rattle.std.specs.Option.{option_map_or};
     ghost use Rattle.link_names.specs.NameHash.{fnv_1a};
     ghost use Rattle.link_buckets.specs.Keys.{Key, key_of};
     ghost use Rattle.link_files.specs.HeldFiles.{names_in};
-    ghost use Rattle.link_mapping.specs.Mapped.{later_in, mapped_key};
+    ghost use Rattle.link_mapping.specs.Mapped.{later_in, mapped_key, mapping_of};
     ghost use Rattle.link_mapping.specs.Seen.{seen};
 
     /// No files, and so many buckets for names. The only refusal is want of memory.
@@ -74,6 +75,17 @@ impl<P: Platform> SymbolMapping<P> {
     {
         let number = self.buckets.mapped(&self.tables, hash, name, version)?;
         Some(SymbolId::from_usize(number as usize))
+    }
+
+    /// Each plain name that is mapped to a symbol, with the symbol, in no promised order. Mirrors the iterator of Wild's
+    /// `SymbolDb::all_unversioned_symbols`.
+    pub fn mapped_names(&self) -> MappedNames<'_, P>
+        ensures mapped { All (λ pair. mapping_of (seen self.now) pair.0 ≡ Some pair.1) result }
+        ensures complete { (name : List ℕ) (id : ℕ) → mapping_of (seen self.now) name ≡ Some id → Contains result (name, id) }
+        ensures once { AllPairs (λ a b. a.0 ≢ b.0) result }
+        ensures within { All (λ pair. pair.1 < length (names_in (seen self.now).files)) result }
+    {
+        MappedNames::new(&self.tables, self.buckets.mapped_labels())
     }
 
     /// The definitions of the symbol's name that come behind it, where it is the first of them.

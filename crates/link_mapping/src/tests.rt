@@ -93,6 +93,18 @@ fn shown(alloc: Global, mapping: &SymbolMapping<MachLike>) -> Result<String, All
     Ok(text)
 }
 
+/// How many plain names come with what they are mapped to.
+fn count_names(mapping: &SymbolMapping<MachLike>) -> usize {
+    let mut count: usize = 0;
+    for (name, id) in mapping.mapped_names() {
+        let bytes = name.as_slice();
+        if mapping.mapped(hash_bytes(bytes), bytes, None) == Some(id) {
+            count = count.saturating_add(1);
+        }
+    }
+    count
+}
+
 #[test]
 fn names_are_mapped(rt: HostRuntime) -> Result<(), Fail> {
     let alloc = rt.alloc();
@@ -136,5 +148,6 @@ fn names_are_mapped(rt: HostRuntime) -> Result<(), Fail> {
         shown(alloc, &mapping)?.as_str(),
         "f 2; __wrap_f 2; __real_f 1; g 2; h 7; "
     );
+    assert_eq!(rt; count_names(&mapping), NAMES.len());
     Ok(())
 }
