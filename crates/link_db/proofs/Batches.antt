@@ -3,6 +3,7 @@ use Rattle.std.proofs.Common.{◌≡◌, ◌+◌, ◌<◌, ◌^◌, ◌++◌, �
 use Rattle.std.specs.List.{flat_map}
 use Rattle.std.proofs.Math.Seq.{drop-append_seam}
 use Rattle.std.proofs.lemmas.List.{length-map, nil_from_length}
+use Rattle.link_flags.specs.declared.value_flags.RawFlags.{RawFlags}
 use Rattle.link_input.specs.InputFiles.{Batch}
 use Rattle.link_input.specs.SequencedFiles.{SequencedFile}
 use Rattle.link_input.specs.Symbols.{Symbol, symbols_of}
@@ -22,6 +23,7 @@ use Rattle.link_mapping.specs.Batches.{symbols_behind}
 use Rattle.link_reading.specs.Files.{AllCanBeRead, file_flags}
 use Rattle.link_reading.proofs.Parts.{all_can_be_read}
 use Rattle.link_reading.proofs.Runs.{all-flags}
+use Rattle.link_db.specs.RustForm.{numbers_of}
 use Rattle.link_db.proofs.GroupCounts.{asked-count}
 
 -- of groups that can be asked the last ones can
@@ -98,6 +100,13 @@ flags-behind {P} w old new =
     let behind : drop (length (symbols_in old)) (symbols_in (old ++ new)) ≡ symbols_behind old new =
     ap (λ (l : List Symbol). drop (length (symbols_in old)) l) (symbols-join old new) ∙ drop-append_seam (symbols_in old) (symbols_behind old new) in
     all-flags w (length (objects_in old)) (flat_map (λ (g : Group P). files_of g) new) ∙ ap (map (opening_flags w)) (sym behind)
+
+-- as many words as before, and those that were added
+pub words-grown : (before after : List RawFlags) (more : List ℕ) → numbers_of after ≡ numbers_of before ++ more → length after ≡ length before + length more
+words-grown before after more grown =
+    let all : length (numbers_of after) ≡ length after = length-map after (λ (w : RawFlags). w.0) in
+    let old : length (numbers_of before) ≡ length before = length-map before (λ (w : RawFlags). w.0) in
+    omega (arith, all, old, ap (λ (l : List ℕ). length l) grown, length-append (numbers_of before) more)
 
 -- before the groups of a batch all symbols stand in tables
 pub tabled-names : {P : Type 0} (files held : HeldFiles P) (new : List (Group P)) (count : ℕ) → held ≡ files → count ≡ length (names_in held) → (AreGroupsOfLink (held.groups ++ new) → count ≡ length (symbols_in held.groups))

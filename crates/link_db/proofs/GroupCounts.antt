@@ -1,6 +1,8 @@
 -- How many symbols groups have.
-use Rattle.std.proofs.Common.{◌≡◌, ◌+◌, ◌++◌, ◌∙◌, ℕ, List, [], ◌∷◌, length, map, refl, ap, arith}
-use Rattle.std.specs.List.{AllByRecursion, flat_map}
+use Rattle.std.proofs.Common.{◌≡◌, ◌+◌, ◌++◌, ◌∙◌, ℕ, List, [], ◌∷◌, length, length-append, map, refl, ap, arith}
+use Rattle.std.specs.List.{AllByRecursion, AllZip, flat_map}
+use Rattle.std.proofs.lemmas.List.{length-map}
+use Rattle.link_flags.specs.declared.value_flags.ValueFlags.{ValueFlags}
 use Rattle.link_ids.specs.Span.{Span}
 use Rattle.link_input.specs.SequencedFiles.{SequencedFile}
 use Rattle.link_input.specs.Symbols.{symbols_of}
@@ -11,6 +13,10 @@ use Rattle.link_groups.specs.Groups.{files_of, length_of_spans, object_file, scr
 use Rattle.link_files.specs.GroupFiles.{symbols_in}
 use Rattle.link_files.specs.Numbered.{spans_of}
 use Rattle.link_files.proofs.Numbered.{id_count, id-count-append, tabled-count}
+use Rattle.link_reading.specs.declared.read_symbols.ReadSymbols.{ReadSymbols}
+use Rattle.link_reading.specs.Files as read
+use Rattle.link_reading.specs.Parts.{HasAllFlags}
+use Rattle.link_db.specs.Adding.{flags_in}
 
 -- the ids of files that are all of a kind
 own-spans : {A : Type 0} (file : A → SequencedFile) (span : A → Span) → ((a : A) → (file a).symbols ≡ span a) → (xs : List A) → spans_of (map file xs) ≡ map span xs
@@ -46,3 +52,13 @@ pub count-first : {P : Type 0} (g : Group P) (gs : List (Group P)) → AllCanBeA
     → length (symbols_in (g ∷ gs)) ≡ length_of_spans (symbol_spans g) + length (symbols_in gs)
 count-first {P} g gs all =
     omega (arith, asked-count 0 (g ∷ gs) all, asked-count 0 gs all.1, id-count-append (files_of g) (flat_map (λ (k : Group P). files_of k) gs), ap length_of_spans (group-spans g))
+
+-- where each part has flags for each id of its group, there are as many flags as symbols
+pub read-count : {P : Type 0} (groups : List (Group P)) (parts : List ReadSymbols) → AllCanBeAsked groups → AllZip (λ g part. HasAllFlags g part) groups parts
+    → length (flags_in parts) ≡ length (symbols_in groups)
+read-count [] [] all have = refl
+read-count [] (p ∷ ps) all have = absurd have
+read-count (g ∷ gs) [] all have = absurd have
+read-count (g ∷ gs) (p ∷ ps) all have =
+    let own : length (read.numbers_of p.flags.items) ≡ length p.flags.items = length-map p.flags.items (λ (f : ValueFlags). f.0) in
+    omega (arith, count-first g gs all, length-append (read.numbers_of p.flags.items) (flags_in ps), own, have.0, read-count gs ps all.1 have.1)

@@ -75,6 +75,7 @@ impl<P: Platform + Sync> SymbolDb<P> {
         ensures late { IsTrue (not (is_empty (seen self.old).mapping.files.groups)) → (seen self.new).rules ≡ (seen self.old).rules }
         ensures flags { OnOk result ((w : Stage) → AreRulesOf (platform_of P.Platform) (D.demangled demangler.now) (seen self.new).rules w.rules → w.options.output ≡ (seen self.old).options.output
             → HaveOpeningFlags w (seen self.old) (seen self.new) (words_of flags.old) (words_of flags.new)) }
+        ensures whole { OnOk result (length (words_of flags.new) ≡ length (symbol_names (seen self.new))) }
         ensures cause { (batches : List Batch) → AreGroupsOf (seen self.old).options batches (seen self.old).mapping.files.groups
             → TellsCause (inputs_cause (seen self.old) batches (batch_of inputs)) result }
         ensures unchanged { OnErr result (seen self.new ≡ seen self.old) }
@@ -123,6 +124,7 @@ impl<P: Platform + Sync> SymbolDb<P> {
         ensures rules { OnOk result ((seen self.new).rules ≡ with_taken script (seen self.old).rules) }
         ensures flags { OnOk result ((w : Stage) → AreRulesOf (platform_of P.Platform) (D.demangled demangler.now) (seen self.new).rules w.rules → w.options.output ≡ (seen self.old).options.output
             → HaveOpeningFlags w (seen self.old) (seen self.new) (words_of flags.old) (words_of flags.new)) }
+        ensures whole { OnOk result (length (words_of flags.new) ≡ length (symbol_names (seen self.new))) }
         ensures unchanged { OnErr result (seen self.new ≡ seen self.old) }
         ensures flags_unchanged { OnErr result (flags.new ≡ flags.old) }
     {
@@ -158,6 +160,7 @@ impl<P: Platform + Sync> SymbolDb<P> {
         ensures rules { (seen self.new).rules ≡ (seen self.old).rules }
         ensures flags { OnOk result ((w : Stage) → AreRulesOf (platform_of P.Platform) (D.demangled demangler.now) (seen self.old).rules w.rules → w.options.output ≡ (seen self.old).options.output
             → HaveOpeningFlags w (seen self.old) (seen self.new) (words_of flags.old) (words_of flags.new)) }
+        ensures whole { OnOk result (length (words_of flags.new) ≡ length (symbol_names (seen self.new))) }
         ensures unchanged { OnErr result (seen self.new ≡ seen self.old) }
         ensures flags_unchanged { OnErr result (flags.new ≡ flags.old) }
     {

@@ -17,7 +17,7 @@ use Rattle.link_rules.specs.World.{Stage}
 use Rattle.link_loader.specs.ReadTexts.{ReadTexts}
 use Rattle.link_reading.specs.declared.read_symbols.ReadSymbols.{ReadSymbols}
 use Rattle.link_reading.specs.Files.{AllCanBeRead, IsStageBy, file_definitions, file_flags, numbers_of}
-use Rattle.link_reading.specs.Parts.{IsReadOf}
+use Rattle.link_reading.specs.Parts.{HasAllFlags, IsReadOf}
 
 -- groups that can be asked can be read
 pub all_can_be_read : {P : Type 0} (groups : List (Group P)) → AllCanBeAsked groups → AllCanBeRead groups
@@ -47,6 +47,14 @@ collected of_part of_file R gives groups results (Err e) zipped given = tt
 collected of_part of_file R gives groups results (Ok v) zipped given =
     ap (flat_map of_part) given.2 ∙ joined of_part of_file R gives groups given.0 (subst (AllZip R groups) given.1 zipped)
 
+-- what is said of each group and what was read of it, where nothing was refused
+each_part : {P : Type 0} (R : Group P → Result ReadSymbols AllocError → Type 0) (S : Group P → ReadSymbols → Type 0) → ((g : Group P) (r : ReadSymbols) → R g (Ok r) → S g r)
+    → (groups : List (Group P)) (parts : List ReadSymbols) → AllZip R groups (map Ok parts) → AllZip S groups parts
+each_part R S so [] [] zipped = tt
+each_part R S so [] (r ∷ rs) zipped = absurd zipped
+each_part R S so (g ∷ gs) [] zipped = absurd zipped
+each_part R S so (g ∷ gs) (r ∷ rs) zipped = (so g r zipped.0, each_part R S so gs rs zipped.1)
+
 module _ {P : Type 0} (platform : PlatformRules) (demangle : Bytes → Bytes) (texts : ReadTexts) (output : OutputKind) (groups : List (Group P))
     (results : List (Result ReadSymbols AllocError)) (zipped : AllZip (λ g r. IfOk r (IsReadOf platform demangle texts output g)) groups results) where
   -- the definitions of all parts are those of all files
@@ -66,3 +74,13 @@ module _ {P : Type 0} (platform : PlatformRules) (demangle : Bytes → Bytes) (t
   all_flags_read (Ok v) given = λ w is_stage.
       collected (λ (part : ReadSymbols). numbers_of part.flags.items) (file_flags w) (λ (g : Group P) r. IfOk r (IsReadOf platform demangle texts output g))
       (λ g r is. is.flags w is_stage) groups results (Ok v) zipped given
+
+  -- each part has flags for each id of its group
+  pub all_have_flags : (r : Result (Vec ReadSymbols Global) AllocError)
+      → MatchResult r (λ v. (parts : List ReadSymbols) × (results ≡ map Ok parts) × (v.items ≡ parts)) (λ e. Contains results (Err e))
+      → IfOk r (λ v. AllZip (λ group part. HasAllFlags group part) groups v.items)
+  all_have_flags (Err e) given = tt
+  all_have_flags (Ok v) given =
+      subst (λ (parts : List ReadSymbols). AllZip (λ (g : Group P) part. HasAllFlags g part) groups parts) (sym given.2)
+      (each_part (λ (g : Group P) r. IfOk r (IsReadOf platform demangle texts output g)) (λ g part. HasAllFlags g part) (λ g r is. is.count) groups given.0
+      (subst (λ (rs : List (Result ReadSymbols AllocError)). AllZip (λ (g : Group P) r. IfOk r (IsReadOf platform demangle texts output g)) groups rs) given.1 zipped))

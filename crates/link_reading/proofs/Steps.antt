@@ -1,11 +1,14 @@
 -- A step of a walk over symbols: what was read, and what the rest will give, stays the same.
-use Rattle.std.proofs.Common.{◌≡◌, ℕ, ◌+◌, ◌<◌, suc, List, [], ◌∷◌, ◌++◌, length, drop, get_or, map, sym, ap, ◌∙◌, append_assoc, arith}
+use Rattle.std.proofs.Common.{◌≡◌, ℕ, ◌+◌, ◌<◌, suc, List, [], ◌∷◌, ◌++◌, length, drop, get_or, map, sym, ap, ◌∙◌, append_assoc, length-append, arith}
 use Rattle.std.specs.Prelude.{Some, slice_get}
 use Rattle.std.proofs.Math.Seq.{drop-cons}
+use Rattle.std.proofs.lemmas.List.{length-map}
 use Rattle.std.proofs.lemmas.Option.{get_or_from_slice_get, slice_get_within}
+use Rattle.link_flags.specs.declared.value_flags.ValueFlags.{ValueFlags}
 use Rattle.link_buckets.specs.declared.definition.Definition.{Definition}
 use Rattle.link_input.specs.Symbols.{Symbol}
 use Rattle.link_reading.specs.Definitions.{definitions_by, definitions_from}
+use Rattle.link_reading.specs.Files.{numbers_of}
 
 -- what is left from a place on is the element there, and what is left behind it
 pub rest_is : {X : Type 0} (xs : List X) (i : ℕ) (x : X) → i < length xs → x ≡ get_or xs i x → drop i xs ≡ x ∷ drop (i + 1) xs
@@ -16,6 +19,13 @@ rest_is xs i x lt is =
 -- the same of the element that is looked up there
 pub rest_at : {X : Type 0} (xs : List X) (i : ℕ) (x : X) → slice_get xs i ≡ Some x → drop i xs ≡ x ∷ drop (i + 1) xs
 rest_at xs i x is = rest_is xs i x (slice_get_within xs i x is) (sym (get_or_from_slice_get xs i x x is))
+
+-- flags of one symbol more
+pub one_more : (before now : List ValueFlags) (n : ℕ) → numbers_of now ≡ numbers_of before ++ n ∷ [] → length now ≡ length before + 1
+one_more before now n added =
+    let all : length (numbers_of now) ≡ length now = length-map now (λ (f : ValueFlags). f.0) in
+    let old : length (numbers_of before) ≡ length before = length-map before (λ (f : ValueFlags). f.0) in
+    omega (arith, all, old, ap (λ (l : List ℕ). length l) added, length-append (numbers_of before) (n ∷ []))
 
 module _ {X : Type 0} (symbol : X → Symbol) (xs : List X) (i : ℕ) (x : X) (rest : drop i xs ≡ x ∷ drop (i + 1) xs) where
   -- the definitions of one symbol more

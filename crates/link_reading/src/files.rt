@@ -1,6 +1,6 @@
 //! Reads the symbols of files that are no objects.
 
-ghost use Rattle.std.specs.Prelude.{◌≡◌, ◌++◌, ◌<◌, ◌^◌, length, OnOk};
+ghost use Rattle.std.specs.Prelude.{◌≡◌, ◌+◌, ◌++◌, ◌<◌, ◌^◌, length, OnOk};
 ghost use Rattle.link_groups.specs.Asked.{HasIdsForAll};
 ghost use Rattle.link_groups.specs.Groups.{script_file, sequenced_prelude, stub_file};
 ghost use Rattle.link_rules.specs.World.{Stage};
@@ -19,6 +19,7 @@ pub fn load_prelude(prelude: &Prelude, read: &mut ReadSymbols) -> Result<(), All
     requires { length prelude.now < 2 ^ 32 }
     ensures definitions { OnOk result (read.new.definitions.items ≡ read.old.definitions.items ++ file_definitions (sequenced_prelude prelude.now)) }
     ensures flags { OnOk result ((w : Stage) → numbers_of read.new.flags.items ≡ numbers_of read.old.flags.items ++ file_flags w (sequenced_prelude prelude.now)) }
+    ensures count { OnOk result (length read.new.flags.items ≡ length read.old.flags.items + length prelude.now) }
 {
     for (place, definition) in prelude.symbols().iter().enumerate() {
         let id = SymbolId::from_usize(place);
@@ -34,6 +35,7 @@ pub fn load_script(script: &SequencedLinkerScript, read: &mut ReadSymbols) -> Re
     requires { HasIdsForAll (script_file script.now) }
     ensures definitions { OnOk result (read.new.definitions.items ≡ read.old.definitions.items ++ file_definitions (script_file script.now)) }
     ensures flags { OnOk result ((w : Stage) → numbers_of read.new.flags.items ≡ numbers_of read.old.flags.items ++ file_flags w (script_file script.now)) }
+    ensures count { OnOk result (length read.new.flags.items ≡ length read.old.flags.items + script.now.symbol_id_range.len) }
 {
     let ids = script.symbol_id_range;
     for (place, definition) in script.parsed.symbol_defs.as_slice().iter().enumerate() {
@@ -50,6 +52,7 @@ pub fn load_stub(stub: &SequencedStubLibrary, read: &mut ReadSymbols) -> Result<
     requires { HasIdsForAll (stub_file stub.now) }
     ensures definitions { OnOk result (read.new.definitions.items ≡ read.old.definitions.items ++ file_definitions (stub_file stub.now)) }
     ensures flags { OnOk result ((w : Stage) → numbers_of read.new.flags.items ≡ numbers_of read.old.flags.items ++ file_flags w (stub_file stub.now)) }
+    ensures count { OnOk result (length read.new.flags.items ≡ length read.old.flags.items + stub.now.symbol_id_range.len) }
 {
     let ids = stub.symbol_id_range;
     let flags = flags_of_stub_symbol();

@@ -1,12 +1,13 @@
 //! Reads the symbols of a group.
 
-ghost use Rattle.std.specs.Prelude.{◌≡◌, ◌++◌, map, IfOk, OnOk};
+ghost use Rattle.std.specs.Prelude.{◌≡◌, ◌+◌, ◌++◌, length, map, IfOk, OnOk};
 ghost use Rattle.std.specs.List.{AllByRecursion, flat_map};
 ghost use Rattle.link_groups.specs.Asked.{HasIdsForAll};
-ghost use Rattle.link_groups.specs.Groups.{files_of, object_file, script_file, stub_file};
+ghost use Rattle.link_groups.specs.Groups.{files_of, length_of_spans, object_file, script_file, stub_file, symbol_spans};
 ghost use Rattle.link_rules.specs.World.{Stage};
 ghost use Rattle.link_loader.specs.Holds.{platform_of};
 ghost use Rattle.link_reading.specs.Files.{CanBeRead, IsStageBy, file_definitions, file_flags, numbers_of};
+ghost use Rattle.link_reading.specs.Parts.{HasAllFlags};
 
 use crate::files::{load_prelude, load_script, load_stub};
 use crate::loader::{DynamicObjectSymbolLoader, RegularObjectSymbolLoader, SymbolLoader};
@@ -29,6 +30,7 @@ fn load_object<P: Platform, D: Demangler>(
     ensures definitions { OnOk result (read.new.definitions.items ≡ read.old.definitions.items ++ file_definitions (object_file object.now)) }
     ensures flags { OnOk result ((w : Stage) → IsStageBy (platform_of P.Platform) (D.demangled demangler.now) rules.now output w
         → numbers_of read.new.flags.items ≡ numbers_of read.old.flags.items ++ file_flags w (object_file object.now)) }
+    ensures count { OnOk result (length read.new.flags.items ≡ length read.old.flags.items + object.now.symbol_id_range.len) }
 {
     if object.is_dynamic() {
         let loader = DynamicObjectSymbolLoader {
@@ -60,6 +62,7 @@ fn load_objects<P: Platform, D: Demangler>(
         ≡ read.old.definitions.items ++ flat_map file_definitions (map (λ o. object_file o) objects.now)) }
     ensures flags { OnOk result ((w : Stage) → IsStageBy (platform_of P.Platform) (D.demangled demangler.now) rules.now output w
         → numbers_of read.new.flags.items ≡ numbers_of read.old.flags.items ++ flat_map (file_flags w) (map (λ o. object_file o) objects.now)) }
+    ensures count { OnOk result (length read.new.flags.items ≡ length read.old.flags.items + length_of_spans (map (λ o. o.symbol_id_range) objects.now)) }
 {
     for object in objects {
         load_object(rules, output, demangler, object, read)?;
@@ -73,6 +76,7 @@ fn load_scripts(scripts: &[SequencedLinkerScript], read: &mut ReadSymbols) -> Re
     ensures definitions { OnOk result (read.new.definitions.items ≡ read.old.definitions.items ++ flat_map file_definitions (map script_file scripts.now)) }
     ensures flags { OnOk result ((w : Stage)
         → numbers_of read.new.flags.items ≡ numbers_of read.old.flags.items ++ flat_map (file_flags w) (map script_file scripts.now)) }
+    ensures count { OnOk result (length read.new.flags.items ≡ length read.old.flags.items + length_of_spans (map (λ s. s.symbol_id_range) scripts.now)) }
 {
     for script in scripts {
         load_script(script, read)?;
@@ -86,6 +90,7 @@ fn load_stubs(stubs: &[SequencedStubLibrary], read: &mut ReadSymbols) -> Result<
     ensures definitions { OnOk result (read.new.definitions.items ≡ read.old.definitions.items ++ flat_map file_definitions (map stub_file stubs.now)) }
     ensures flags { OnOk result ((w : Stage)
         → numbers_of read.new.flags.items ≡ numbers_of read.old.flags.items ++ flat_map (file_flags w) (map stub_file stubs.now)) }
+    ensures count { OnOk result (length read.new.flags.items ≡ length read.old.flags.items + length_of_spans (map (λ s. s.symbol_id_range) stubs.now)) }
 {
     for stub in stubs {
         load_stub(stub, read)?;
@@ -105,6 +110,7 @@ fn load_group<P: Platform, D: Demangler>(
     ensures definitions { OnOk result (read.new.definitions.items ≡ read.old.definitions.items ++ flat_map file_definitions (files_of group.now)) }
     ensures flags { OnOk result ((w : Stage) → IsStageBy (platform_of P.Platform) (D.demangled demangler.now) rules.now output w
         → numbers_of read.new.flags.items ≡ numbers_of read.old.flags.items ++ flat_map (file_flags w) (files_of group.now)) }
+    ensures count { OnOk result (length read.new.flags.items ≡ length read.old.flags.items + length_of_spans (symbol_spans group.now)) }
 {
     match group {
         Group::Prelude(prelude) => load_prelude(prelude, read),
@@ -130,6 +136,7 @@ pub fn read_group<P: Platform, D: Demangler>(
     ensures definitions { IfOk result (λ read. read.definitions.items ≡ flat_map file_definitions (files_of group.now)) }
     ensures flags { IfOk result (λ read. (w : Stage) → IsStageBy (platform_of P.Platform) (D.demangled demangler.now) rules.now output w
         → numbers_of read.flags.items ≡ flat_map (file_flags w) (files_of group.now)) }
+    ensures count { IfOk result (HasAllFlags group.now) }
 {
     let mut read = ReadSymbols::new(alloc);
     load_group(rules, output, demangler, group, &mut read)?;

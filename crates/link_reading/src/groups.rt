@@ -1,12 +1,12 @@
 //! Reads the symbols of groups, side by side.
 
 ghost use Rattle.std.specs.Prelude.{◌≡◌, IfOk};
-ghost use Rattle.std.specs.List.{flat_map};
+ghost use Rattle.std.specs.List.{AllZip, flat_map};
 ghost use Rattle.link_groups.specs.Groups.{files_of};
 ghost use Rattle.link_rules.specs.World.{Stage};
 ghost use Rattle.link_loader.specs.Holds.{platform_of};
 ghost use Rattle.link_reading.specs.Files.{AllCanBeRead, CanBeRead, IsStageBy, file_definitions, file_flags, numbers_of};
-ghost use Rattle.link_reading.specs.Parts.{IsReadOf};
+ghost use Rattle.link_reading.specs.Parts.{HasAllFlags, IsReadOf};
 
 use crate::group::read_group;
 use crate::read_symbols::ReadSymbols;
@@ -33,6 +33,7 @@ pub fn read_groups<R: Threads + Sync, P: Platform + Sync, D: Demangler + Sync>(
         ≡ flat_map file_definitions (flat_map (λ g. files_of g) groups.now)) }
     ensures flags { IfOk result (λ parts. (w : Stage) → IsStageBy (platform_of P.Platform) (D.demangled demangler.now) rules.now output w
         → flat_map (λ part. numbers_of part.flags.items) parts.items ≡ flat_map (file_flags w) (flat_map (λ g. files_of g) groups.now)) }
+    ensures count { IfOk result (λ parts. AllZip (λ group part. HasAllFlags group part) groups.now parts.items) }
 {
     groups
         .par_iter()

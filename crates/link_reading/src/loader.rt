@@ -12,7 +12,7 @@ use std::alloc::AllocError;
 
 /// What reads the symbols of the objects of one kind on a platform. Mirrors Wild's `SymbolLoader`.
 pub trait SymbolLoader<P: Platform> {
-    ghost use Rattle.std.specs.Prelude.{◌≡◌, ◌++◌, [], ◌∷◌, ℕ, Bool, OnOk};
+    ghost use Rattle.std.specs.Prelude.{◌≡◌, ◌+◌, ◌++◌, [], ◌∷◌, ℕ, Bool, length, OnOk};
     ghost use Rattle.link_groups.specs.Asked.{HasIdsForAll};
     ghost use Rattle.link_groups.specs.Groups.{object_file};
     ghost use Rattle.link_rules.specs.Opening.{opening_flags};
@@ -44,6 +44,7 @@ pub trait SymbolLoader<P: Platform> {
         ensures definitions { OnOk result (read.new.definitions.items ≡ read.old.definitions.items ++ definitions_by id (entry_symbol is_dynamic row.now)) }
         ensures flags { OnOk result ((w : Stage) → reads_for self.now w
             → numbers_of read.new.flags.items ≡ numbers_of read.old.flags.items ++ opening_flags w (entry_symbol is_dynamic row.now) ∷ []) }
+        ensures count { OnOk result (length read.new.flags.items ≡ length read.old.flags.items + 1) }
     {
         let flags = self.compute_value_flags(row);
         let listing = listing_of_row(self.should_ignore_symbol(row), row);
@@ -61,6 +62,7 @@ pub trait SymbolLoader<P: Platform> {
         ensures definitions { OnOk result (read.new.definitions.items ≡ read.old.definitions.items ++ file_definitions (object_file object.now)) }
         ensures flags { OnOk result ((w : Stage) → reads_for self.now w
             → numbers_of read.new.flags.items ≡ numbers_of read.old.flags.items ++ file_flags w (object_file object.now)) }
+        ensures count { OnOk result (length read.new.flags.items ≡ length read.old.flags.items + object.now.symbol_id_range.len) }
     {
         for offset in 0..object.symbol_id_range.len() {
             let id = object.symbol_id_range.offset_to_id(offset);

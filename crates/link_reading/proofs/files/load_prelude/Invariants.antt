@@ -1,4 +1,4 @@
-use Rattle.std.proofs.Common.{◌≡◌, ◌+◌, ◌++◌, drop, map}
+use Rattle.std.proofs.Common.{◌≡◌, ◌+◌, ◌++◌, drop, length, map}
 use Rattle.link_input.specs.declared.internal_symbols.InternalSymDefInfo.{InternalSymDefInfo}
 use Rattle.link_input.specs.Symbols.{in_prelude, symbol_of}
 use Rattle.link_groups.specs.Groups.{sequenced_prelude}
@@ -14,4 +14,5 @@ invariant-loop-place l = record {
       ≡ l.fn.read.definitions.items ++ file_definitions (sequenced_prelude l.prelude);
   flags : (w : Stage) → numbers_of l.read.flags.items ++ map (opening_flags w) (map (λ (d : InternalSymDefInfo). symbol_of d.name (in_prelude d)) (drop l.place l.definition-items))
       ≡ numbers_of l.fn.read.flags.items ++ file_flags w (sequenced_prelude l.prelude);
+  count : length l.read.flags.items ≡ length l.fn.read.flags.items + l.place;
 }

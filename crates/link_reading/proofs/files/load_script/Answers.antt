@@ -1,9 +1,9 @@
-use Rattle.std.proofs.Common.{◌++◌, ◌∷◌, [], ℕ, sym, ap, ◌∙◌}
+use Rattle.std.proofs.Common.{◌++◌, ◌∷◌, [], ℕ, sym, ap, ◌∙◌, arith}
 use Rattle.link_input.specs.declared.internal_symbols.InternalSymDefInfo.{InternalSymDefInfo}
 use Rattle.link_input.specs.Symbols.{in_script, symbol_of}
 use Rattle.link_rules.specs.Opening.{opening_flags}
 use Rattle.link_reading.specs.Files.{numbers_of}
-use Rattle.link_reading.proofs.Steps.{next_definitions, next_flags, rest_is}
+use Rattle.link_reading.proofs.Steps.{next_definitions, next_flags, one_more, rest_is}
 use Rattle.link_reading.proofs.files.load_script.Goals as goal
 
 pub loop-place-preserved : goal.loop-place-preserved
@@ -21,4 +21,5 @@ loop-place-preserved c =
       flags = λ w. next_flags symbol items i x rest (opening_flags w) (numbers_of before.flags.items) _ _
           (c.in_ok-add_symbol.ensures.flags ∙ ap (λ (n : ℕ). numbers_of before.flags.items ++ n ∷ []) (c.flags_of_script_symbol-flags.ensures w))
           (c.loop-place.invariant.flags w);
+      count = omega (arith, one_more before.flags.items _ _ c.in_ok-add_symbol.ensures.flags, c.loop-place.invariant.count);
     }

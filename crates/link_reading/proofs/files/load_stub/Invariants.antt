@@ -1,4 +1,4 @@
-use Rattle.std.proofs.Common.{◌≡◌, ◌+◌, ◌++◌, drop, map}
+use Rattle.std.proofs.Common.{◌≡◌, ◌+◌, ◌++◌, drop, length, map}
 use Rattle.link_input.specs.declared.world.StubSymbol.{StubSymbol}
 use Rattle.link_input.specs.Symbols.{in_stub, stub_strength, symbol_of}
 use Rattle.link_groups.specs.Groups.{stub_file}
@@ -14,4 +14,5 @@ invariant-loop-place l = record {
       ≡ l.fn.read.definitions.items ++ file_definitions (stub_file l.stub);
   flags : (w : Stage) → numbers_of l.read.flags.items ++ map (opening_flags w) (map (λ (s : StubSymbol). symbol_of s.name (in_stub (stub_strength s))) (drop l.place l.symbol-items))
       ≡ numbers_of l.fn.read.flags.items ++ file_flags w (stub_file l.stub);
+  count : length l.read.flags.items ≡ length l.fn.read.flags.items + l.place;
 }

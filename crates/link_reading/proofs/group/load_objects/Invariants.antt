@@ -1,7 +1,7 @@
-use Rattle.std.proofs.Common.{◌≡◌, ◌++◌, drop, map}
+use Rattle.std.proofs.Common.{◌≡◌, ◌+◌, ◌++◌, drop, length, map}
 use Rattle.std.specs.List.{AllByRecursion, flat_map}
 use Rattle.link_groups.specs.Asked.{HasIdsForAll}
-use Rattle.link_groups.specs.Groups.{object_file}
+use Rattle.link_groups.specs.Groups.{length_of_spans, object_file}
 use Rattle.link_rules.specs.World.{Stage}
 use Rattle.link_loader.specs.Holds.{platform_of}
 use Rattle.link_reading.specs.Files.{IsStageBy, file_definitions, file_flags, numbers_of}
@@ -15,4 +15,6 @@ invariant-loop-object g l = record {
   flags : (w : Stage) → IsStageBy (platform_of g.P.Platform) (g.D.Demangler.demangled l.demangler) l.rules l.output w
       → numbers_of l.read.flags.items ++ flat_map (file_flags w) (map (λ o. object_file o) (drop l.object-index l.objects))
       ≡ numbers_of l.fn.read.flags.items ++ flat_map (file_flags w) (map (λ o. object_file o) l.objects);
+  count : length l.read.flags.items + length_of_spans (map (λ o. o.symbol_id_range) (drop l.object-index l.objects))
+      ≡ length l.fn.read.flags.items + length_of_spans (map (λ o. o.symbol_id_range) l.objects);
 }

@@ -1,7 +1,7 @@
-use Rattle.std.proofs.Common.{◌≡◌, ◌++◌, drop, map}
+use Rattle.std.proofs.Common.{◌≡◌, ◌+◌, ◌++◌, drop, length, map}
 use Rattle.std.specs.List.{AllByRecursion, flat_map}
 use Rattle.link_groups.specs.Asked.{HasIdsForAll}
-use Rattle.link_groups.specs.Groups.{script_file}
+use Rattle.link_groups.specs.Groups.{length_of_spans, script_file}
 use Rattle.link_rules.specs.World.{Stage}
 use Rattle.link_reading.specs.Files.{file_definitions, file_flags, numbers_of}
 use Rattle.link_reading.proofs.group.load_scripts.Given as goal
@@ -13,4 +13,6 @@ invariant-loop-script l = record {
       ≡ l.fn.read.definitions.items ++ flat_map file_definitions (map script_file l.scripts);
   flags : (w : Stage) → numbers_of l.read.flags.items ++ flat_map (file_flags w) (map script_file (drop l.script-index l.scripts))
       ≡ numbers_of l.fn.read.flags.items ++ flat_map (file_flags w) (map script_file l.scripts);
+  count : length l.read.flags.items + length_of_spans (map (λ o. o.symbol_id_range) (drop l.script-index l.scripts))
+      ≡ length l.fn.read.flags.items + length_of_spans (map (λ o. o.symbol_id_range) l.scripts);
 }

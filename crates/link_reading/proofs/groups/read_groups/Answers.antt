@@ -6,7 +6,7 @@ use Rattle.link_input.specs.declared.options.OutputKind.{OutputKind}
 use Rattle.link_loader.specs.Holds.{platform_of}
 use Rattle.link_loader.specs.ReadTexts.{ReadTexts}
 use Rattle.link_reading.specs.Parts.{IsReadOf}
-use Rattle.link_reading.proofs.Parts.{all_definitions_read, all_flags_read}
+use Rattle.link_reading.proofs.Parts.{all_definitions_read, all_flags_read, all_have_flags}
 use Rattle.link_reading.proofs.groups.read_groups.Given as given
 use Rattle.link_reading.proofs.groups.read_groups.Goals as goal
 
@@ -38,4 +38,9 @@ returns-clause-definitions g c =
 pub returns-clause-flags : goal.returns-clause-flags
 returns-clause-flags g c =
     all_flags_read (platform_of g.P.Platform) (g.D.Demangler.demangled c.args.demangler.now) c.args.rules.now c.args.output c.args.groups.now
+    c.in_ok-collect.ensures.0 (zipped g c) c.in_ok-collect.field-0 c.in_ok-collect.ensures.2
+
+pub returns-clause-count : goal.returns-clause-count
+returns-clause-count g c =
+    all_have_flags (platform_of g.P.Platform) (g.D.Demangler.demangled c.args.demangler.now) c.args.rules.now c.args.output c.args.groups.now
     c.in_ok-collect.ensures.0 (zipped g c) c.in_ok-collect.field-0 c.in_ok-collect.ensures.2

@@ -1,6 +1,6 @@
 use Rattle.std.proofs.Common.{length-append, drop, ◌≡◌, ◌+◌, ◌<◌, ◌++◌, ◌∙◌, ℕ, List, All, refl, sym, ap, subst, arith, length, map}
 use Rattle.std.proofs.lemmas.List.FromFn.{length-range_with_len}
-use Rattle.std.specs.List.{flat_map, range_with_len}
+use Rattle.std.specs.List.{AllZip, flat_map, range_with_len}
 use Rattle.link_flags.specs.FlagWords.{words_of}
 use Rattle.link_groups.specs.declared.group.Group.{Group}
 use Rattle.link_groups.specs.Asked.{AllCanBeAsked}
@@ -11,12 +11,14 @@ use Rattle.link_mapping.specs.Seen as names
 use Rattle.link_mapping.proofs.Batches.{read_behind}
 use Rattle.link_reading.specs.declared.read_symbols.ReadSymbols.{ReadSymbols}
 use Rattle.link_reading.specs.Files.{AllCanBeRead, IsStageBy, file_definitions, file_flags}
+use Rattle.link_reading.specs.Parts.{HasAllFlags}
 use Rattle.link_groups.specs.Groups.{files_of}
 use Rattle.link_rules.specs.Opening.{opening_flags}
 use Rattle.link_db.specs.Adding.{flags_in}
 use Rattle.link_db.specs.RustForm.{numbers_of}
 use Rattle.link_db.specs.Seen.{seen}
-use Rattle.link_db.proofs.Batches.{can-be-asked, can-be-read, flags-behind, names-fit, names-grown, none-added, tabled-names}
+use Rattle.link_db.proofs.Batches.{can-be-asked, can-be-read, flags-behind, names-fit, names-grown, none-added, tabled-names, words-grown}
+use Rattle.link_db.proofs.GroupCounts.{read-count}
 use Rattle.link_db.proofs.Ids.{grown-within, table-counted, table-grown}
 use Rattle.link_db.proofs.database.SymbolDb.add_groups.Goals as goal
 
@@ -123,3 +125,16 @@ returns-clause-flags g c = λ w are output.
     let behind : flags_in c.in_ok-parts.parts.items ≡ map (opening_flags w) (drop (length (symbols_in files.groups)) (symbols_in (names.seen c.add_groups.new.self).files.groups)) =
     read ∙ ap (λ (f : HeldFiles g.row.P.Denot). map (opening_flags w) (drop (length (symbols_in files.groups)) (symbols_in f.groups))) (sym c.in_default.ensures.files) in
     grown ∙ ap (λ (l : List ℕ). numbers_of (words_of c.args.flags.now) ++ l) behind
+
+-- words behind those that there were, one for each new symbol
+pub returns-clause-whole : goal.returns-clause-whole
+returns-clause-whole g c =
+    let files = (seen c.args.self.now).mapping.files in
+    let gs = c.args.groups.items in
+    let have = subst (λ (k : List (Group g.row.P.Denot)). AllZip (λ (x : Group g.row.P.Denot) part. HasAllFlags x part) k c.in_ok-parts.parts.items) c.as_slice-2.ensures.value c.in_ok-parts.ensures.count in
+    let read = read-count gs c.in_ok-parts.parts.items (can-be-asked files.groups gs c.requires.groups) have in
+    let parts = ap (λ (ps : List ReadSymbols). length (flags_in ps)) c.as_slice-3.ensures.value in
+    let grown = words-grown (words_of c.args.flags.now) (words_of c.in_ok-grown.grown) (flags_in c.as_slice-3.result.now) c.in_ok-grown.ensures in
+    let total : length (names_in (names.seen c.add_groups.new.self).files) ≡ length (names_in files) + length (symbols_in gs) =
+    ap (λ (f : HeldFiles g.row.P.Denot). length (names_in f)) c.in_default.ensures.files ∙ names-grown files gs c.requires.groups in
+    omega (arith, read, parts, grown, total, c.requires.flags)

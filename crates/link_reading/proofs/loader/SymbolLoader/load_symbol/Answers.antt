@@ -1,6 +1,7 @@
 use Rattle.std.proofs.Common.{sym, ◌∙◌}
 use Rattle.std.proofs.lemmas.Result.{on_ok_weaker}
 use Rattle.link_reading.specs.Files.{entry_symbol}
+use Rattle.link_reading.proofs.Steps.{one_more}
 use Rattle.link_reading.proofs.loader.SymbolLoader.load_symbol.Goals as goal
 
 pub returns-clause-definitions : goal.returns-clause-definitions
@@ -10,3 +11,7 @@ returns-clause-definitions g c =
     (sym (c.as_slice.ensures ∙ c.name.ensures))
     (c.listing_of_row-listing.ensures.plain shared c.should_ignore_symbol.ensures)
     (c.listing_of_row-listing.ensures.versioned shared c.should_ignore_symbol.ensures)) c.add_symbol.ensures.definitions
+
+pub returns-clause-count : goal.returns-clause-count
+returns-clause-count g c =
+    on_ok_weaker c.add_symbol.result (λ added. one_more c.args.read.now.flags.items c.add_symbol.new.self.flags.items _ added) c.add_symbol.ensures.flags

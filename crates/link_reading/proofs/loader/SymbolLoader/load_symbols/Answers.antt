@@ -29,4 +29,5 @@ loop-offset-preserved g c =
           (subst (λ (shared : Bool). numbers_of c.load_symbol.new.read.flags.items ≡ numbers_of before.flags.items ++ opening_flags w (entry_symbol shared e) ∷ [])
           (sym c.requires.kind) (c.in_ok-load_symbol.ensures.flags w reads))
           (c.loop-offset.invariant.flags w reads);
+      count = omega (arith, c.in_ok-load_symbol.ensures.count, c.loop-offset.invariant.count);
     }

@@ -1,4 +1,4 @@
-use Rattle.std.proofs.Common.{◌≡◌, ◌+◌, ◌++◌, drop, map}
+use Rattle.std.proofs.Common.{◌≡◌, ◌+◌, ◌++◌, drop, length, map}
 use Rattle.link_input.specs.Symbols.{object_symbol}
 use Rattle.link_groups.specs.Groups.{object_file}
 use Rattle.link_rules.specs.Opening.{opening_flags}
@@ -15,4 +15,5 @@ invariant-loop-offset g l = record {
   flags : (w : Stage) → g.Self.SymbolLoader.reads_for l.self w
       → numbers_of l.read.flags.items ++ map (opening_flags w) (map (object_symbol 0 l.object.parsed) (drop l.offset l.object.parsed.object.symbols))
       ≡ numbers_of l.fn.read.flags.items ++ file_flags w (object_file l.object);
+  count : length l.read.flags.items ≡ length l.fn.read.flags.items + l.offset;
 }
