@@ -1,0 +1,4 @@
+pub mod Entries
+pub mod Pointing
+pub mod Heads
+pub mod Passes
