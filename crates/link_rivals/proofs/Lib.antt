@@ -2,3 +2,4 @@ pub mod Entries
 pub mod Pointing
 pub mod Heads
 pub mod Passes
+pub mod SettlePass

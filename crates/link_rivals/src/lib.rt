@@ -3,9 +3,11 @@
 #![tactic(auto)]
 
 mod lists;
+mod narrowing;
 mod settling;
 mod survivors;
 
 pub use lists::RivalLists;
+pub use narrowing::narrow;
 pub use settling::{Clash, settle};
 pub use survivors::Survivors;

@@ -2,7 +2,8 @@ use Rattle.std.proofs.Common.{◌++◌, ◌∙◌, ap, arith, length, slice_inde
 use Rattle.std.specs.Prelude.{option_to_list}
 use Rattle.std.proofs.lemmas.List.{append-nil}
 use Rattle.link_rivals.specs.Settled.{clash_at, settled_at, settled_on}
-use Rattle.link_rivals.proofs.Passes.{clash-same, clashes-more, settled-all, settled-more, table-is}
+use Rattle.link_rivals.proofs.Passes.{done-none, table-is}
+use Rattle.link_rivals.proofs.SettlePass.{clash-same, clashes-more, settled-all, settled-more}
 use Rattle.link_rivals.proofs.settling.settle.Goals as goal
 use Rattle.link_rivals.proofs.settling.settle.Goals.{in-Some+in_ok-push, in_default}
 
@@ -20,7 +21,7 @@ loop-number-preserved g c =
       inside = c.in_ok-told.ensures.inside;
       table = λ selection tells s.
           c.in_ok-told.ensures.table selection tells s ∙ ap (λ h. settled_on selection (listed h) table h s) c.from_usize-head.ensures
-          ∙ settled-more selection listed (length old) c.requires.lists old i table s (so_far.table selection tells);
+          ∙ settled-more selection listed (length old) c.requires.lists old i table (so_far.table selection tells) s;
       clashes = λ selection tells.
           let told = c.in_ok-told.ensures.clash selection tells ∙ ap (λ h. clash_at selection (listed h) table h) c.from_usize-head.ensures
               ∙ clash-same selection listed (length old) c.requires.lists old i table (so_far.table selection tells) in
@@ -40,5 +41,5 @@ returns-clause-table g c = λ l tells.
     let listed = g.L.RivalLists.listed c.args.lists.now in
     let old = c.args.table.now in
     table-is (settled_at l listed old) 0 c.loop-number.table old (omega arith)
-    (λ s. c.loop-number.invariant.table l tells s ∙ settled-all l listed (length old) c.loop-number.number old s c.requires.lists (omega arith)
+    (λ s. c.loop-number.invariant.table l tells s ∙ settled-all l listed (length old) c.requires.lists old c.loop-number.number s (omega arith)
     ∙ ap (λ k. settled_at l listed old k (slice_index old s)) (sym (zero-add s)))

@@ -3,7 +3,7 @@ use Rattle.std.specs.List.{range_with_len}
 use Rattle.link_rules.specs.Selection.{Selection}
 use Rattle.link_rivals.specs.Settled.{clash_at, clashes}
 use Rattle.link_rivals.specs.Survivors.{Tells}
-use Rattle.link_rivals.proofs.Passes.{settled_below}
+use Rattle.link_rivals.proofs.SettlePass.{settled_below}
 use Rattle.link_rivals.proofs.settling.settle.Given as goal
 
 abbrev pub invariant-loop-number : goal.invariant-loop-number
