@@ -3,3 +3,5 @@ pub mod Pointing
 pub mod Heads
 pub mod Passes
 pub mod SettlePass
+pub mod Joining
+pub mod NarrowPass

@@ -1,5 +1,5 @@
 -- A pass over all heads comes to each list once.
-use Rattle.std.proofs.Common.{◌≡◌, ◌∙◌, ◌+◌, ◌<◌, ◌≤◌, ℕ, suc, Bool, true, false, List, [], ◌∷◌, Contains, Some, None, refl, sym, ap, subst, inl, inr, arith, length, if◌then◌else◌, slice_index}
+use Rattle.std.proofs.Common.{◌≡◌, ◌∙◌, ◌+◌, ◌<◌, ◌≤◌, ℕ, zero, suc, Bool, true, false, List, [], ◌∷◌, Contains, Some, None, refl, sym, ap, subst, inl, inr, arith, length, if◌then◌else◌, slice_get, slice_index}
 use Rattle.std.specs.Prelude.{◌==◌, nat_lt}
 use Rattle.std.proofs.lemmas.Bool.Decides.{eqb_tells, nat_tests}
 use Rattle.link_rules.proofs.Settled.{here, here_or_there, nothing_in, some_same, there}
@@ -124,15 +124,21 @@ module _ (listed : ℕ → List ℕ) (n : ℕ) (are : AreLists listed n) (F : �
           let passed : is_passed i (x ∷ xs) ≡ true = grind (arith, nat_tests) in
           ap (λ b. if b then F s (old s) else old s) passed
 
--- a table is known by its entries
-pub table-is : (f : ℕ → ℕ → ℕ) (n : ℕ) (new old : List ℕ) → length new ≡ length old
-    → ((s : ℕ) → slice_index new s ≡ f (n + s) (slice_index old s)) → new ≡ each_from f n old
-table-is f n [] [] same at = refl
-table-is f n [] (y ∷ ys) same at = absurd (omega (arith, same))
-table-is f n (x ∷ xs) [] same at = absurd (omega (arith, same))
-table-is f n (x ∷ xs) (y ∷ ys) same at =
+-- a list of numbers is known by what stands at each place
+pub list-is : {X : Type 0} (f : ℕ → X → ℕ) (n : ℕ) (new : List ℕ) (xs : List X) → length new ≡ length xs
+    → ((s : ℕ) (x : X) → slice_get xs s ≡ Some x → slice_index new s ≡ f (n + s) x) → new ≡ each_from f n xs
+list-is f n [] [] same at = refl
+list-is f n [] (y ∷ ys) same at = absurd (omega (arith, same))
+list-is f n (x ∷ xs) [] same at = absurd (omega (arith, same))
+list-is f n (x ∷ xs) (y ∷ ys) same at =
     let first : n + 0 ≡ n = omega arith in
     let fewer : length xs ≡ length ys = omega (arith, same) in
-    ap (λ h. h ∷ xs) (at 0 ∙ ap (λ m. f m y) first)
+    ap (λ h. h ∷ xs) (at 0 y refl ∙ ap (λ m. f m y) first)
     ∙ ap (λ rest. f n y ∷ rest)
-    (table-is f (n + 1) xs ys fewer (λ s. (let next : n + suc s ≡ n + 1 + s = omega arith in at (suc s) ∙ ap (λ m. f m (slice_index ys s)) next)))
+    (list-is f (n + 1) xs ys fewer (λ s z is. (let next : n + suc s ≡ n + 1 + s = omega arith in at (suc s) z is ∙ ap (λ m. f m z) next)))
+
+-- what stands at a place is read there
+pub number-at : (xs : List ℕ) (s x : ℕ) → slice_get xs s ≡ Some x → slice_index xs s ≡ x
+number-at [] s x is = cc
+number-at (y ∷ ys) zero x is = cc
+number-at (y ∷ ys) (suc s) x is = number-at ys s x is

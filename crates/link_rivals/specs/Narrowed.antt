@@ -1,5 +1,5 @@
 -- What lists of rivals make of the flags of their symbols.
-use Rattle.std.specs.Prelude.{◌≡◌, ℕ, List, Bool, false, not, map, if◌then◌else◌, slice_get, slice_index, slice_index_or}
+use Rattle.std.specs.Prelude.{◌≡◌, ℕ, List, Bool, not, true, map, if◌then◌else◌, slice_get, slice_index, slice_index_or}
 use Rattle.std.specs.Option.{option_map_or}
 use Rattle.std.specs.Int.RustNames.{bit_or}
 use Rattle.link_flags.specs.declared.value_flags.RawFlags.{RawFlags}
@@ -21,7 +21,7 @@ numbers_of words = map (λ w. w.0) words
 
 -- flags with these bits, unless the symbol is dynamic
 abbrev pub joined_unless : List Bool → ℕ → ℕ → ℕ → ℕ
-joined_unless dynamic bits s old = bit_or old (flags_if (not (slice_index_or dynamic s false)) bits)
+joined_unless dynamic bits s old = bit_or old (flags_if (not (slice_index_or dynamic s true)) bits)
 
 -- the flags that a list gives to a symbol, if there is one
 abbrev pub flags_by : Stage → List ℕ → ℕ → ℕ

@@ -2,7 +2,7 @@ use Rattle.std.proofs.Common.{◌++◌, ◌∙◌, ap, arith, length, slice_inde
 use Rattle.std.specs.Prelude.{option_to_list}
 use Rattle.std.proofs.lemmas.List.{append-nil}
 use Rattle.link_rivals.specs.Settled.{clash_at, settled_at, settled_on}
-use Rattle.link_rivals.proofs.Passes.{done-none, table-is}
+use Rattle.link_rivals.proofs.Passes.{list-is, number-at}
 use Rattle.link_rivals.proofs.SettlePass.{clash-same, clashes-more, settled-all, settled-more}
 use Rattle.link_rivals.proofs.settling.settle.Goals as goal
 use Rattle.link_rivals.proofs.settling.settle.Goals.{in-Some+in_ok-push, in_default}
@@ -40,6 +40,6 @@ pub returns-clause-table : goal.returns-clause-table
 returns-clause-table g c = λ l tells.
     let listed = g.L.RivalLists.listed c.args.lists.now in
     let old = c.args.table.now in
-    table-is (settled_at l listed old) 0 c.loop-number.table old (omega arith)
-    (λ s. c.loop-number.invariant.table l tells s ∙ settled-all l listed (length old) c.requires.lists old c.loop-number.number s (omega arith)
-    ∙ ap (λ k. settled_at l listed old k (slice_index old s)) (sym (zero-add s)))
+    list-is (settled_at l listed old) 0 c.loop-number.table old (omega arith)
+    (λ s t at. c.loop-number.invariant.table l tells s ∙ settled-all l listed (length old) c.requires.lists old c.loop-number.number s (omega arith)
+    ∙ ap (settled_at l listed old s) (number-at old s t at) ∙ ap (λ k. settled_at l listed old k t) (sym (zero-add s)))
