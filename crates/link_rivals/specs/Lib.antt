@@ -1,0 +1,4 @@
+pub mod Lists
+pub mod Survivors
+pub mod Settled
+pub mod Narrowed

@@ -1,0 +1,37 @@
+-- What each symbol points to once lists of rivals are settled, and which of their entries clash.
+use Rattle.std.specs.Prelude.{ℕ, ◌&&◌, List, map, Option, None, if◌then◌else◌, length, filter_map, option_map, slice_index}
+use Rattle.std.specs.List.{range_with_len}
+use Rattle.link_rules.specs.Places.{contains, each_from, first_of, are_several, is_number}
+use Rattle.link_rules.specs.Rivals.{clash, settled_entry, stand_in}
+use Rattle.link_rules.specs.Selection.{Selection}
+use Rattle.link_rivals.specs.declared.settling.Clash.{Clash}
+
+-- what the symbol of this id points to once its list is settled
+abbrev pub settled_at : Selection → (ℕ → List ℕ) → List ℕ → ℕ → ℕ → ℕ
+settled_at l listed table s old = settled_entry l (listed s) (map (stand_in l table) (listed s)) old
+
+-- what each symbol points to once the lists are settled
+abbrev pub settled_table : Selection → (ℕ → List ℕ) → List ℕ → List ℕ
+settled_table l listed table = each_from (settled_at l listed table) 0 table
+
+-- two entries of the list that begins with this symbol
+abbrev pub clash_of : ℕ → ℕ × ℕ → Clash
+clash_of head pair = record { head = head; first = pair.0; second = pair.1 }
+
+-- the clash of a list, if it begins with this symbol
+abbrev pub clash_at : Selection → List ℕ → List ℕ → ℕ → Option Clash
+clash_at l own table s =
+    if is_number (first_of own) s && are_several own then option_map (clash_of s) (clash l (map (stand_in l table) own)) else None
+
+-- the clashes of all lists, in the order of their heads
+abbrev pub clashes : Selection → (ℕ → List ℕ) → List ℕ → List Clash
+clashes l listed table = filter_map (λ s. clash_at l (listed s) table s) (range_with_len 0 (length table))
+
+-- what a symbol points to once this list alone is settled
+abbrev pub settled_among : Selection → List ℕ → List ℕ → ℕ → ℕ
+settled_among l own table s =
+    if contains s own then settled_entry l own (map (stand_in l table) own) (slice_index table s) else slice_index table s
+
+-- the same, if the list begins with this head
+abbrev pub settled_on : Selection → List ℕ → List ℕ → ℕ → ℕ → ℕ
+settled_on l own table head s = if is_number (first_of own) head then settled_among l own table s else slice_index table s

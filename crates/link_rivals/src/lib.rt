@@ -1,0 +1,13 @@
+//! Which of several definitions of a name counts: lists of rivals are settled, and made as visible as their strictest entry. Lists come by
+//! a trait, and what is known of symbols in columns by their ids, so nothing here knows a database.
+#![tactic(auto)]
+
+mod lists;
+mod narrowing;
+mod settling;
+mod survivors;
+
+pub use lists::RivalLists;
+pub use narrowing::narrow;
+pub use settling::{Clash, settle};
+pub use survivors::Survivors;
