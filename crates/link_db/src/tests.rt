@@ -145,6 +145,17 @@ fn mapped(alloc: Global, db: &SymbolDb<ElfLike>) -> Result<String, AllocError> {
     Ok(text)
 }
 
+/// How many names come with what they are mapped to.
+fn count_names(db: &SymbolDb<ElfLike>) -> usize {
+    let mut count: usize = 0;
+    for (name, id) in db.all_unversioned_symbols() {
+        if db.get_unversioned(name.as_slice()) == Some(id) {
+            count = count.saturating_add(1);
+        }
+    }
+    count
+}
+
 /// What is told of a link: a symbol, and its names by one step after another.
 fn told(
     alloc: Global,
@@ -159,7 +170,8 @@ fn told(
     let wrapped = mapped(alloc, db)?;
     db.release_alternatives();
     let released = mapped(alloc, db)?;
-    format!(in alloc; "{shown}\n{before}\n{wrapped}\n{released}")
+    let names = count_names(db);
+    format!(in alloc; "{shown}\n{before}\n{wrapped}\n{released}\n{names} names")
 }
 
 /// The options of a link that wraps a name.
@@ -192,4 +204,5 @@ const EXPECTED: &str =
     "symbol `foo` (2 local=1) in file #1/0 (main.o) defined as 4 in file #1/1 (a.o) (ABSOLUTE)
 foo 4 4; bar 7 7; zed 9 11; __wrap_foo 12 12; 
 foo 12 12; bar 7 7; zed 9 11; __wrap_foo 12 12; __real_foo 4 4; 
-foo 12 12; bar 7 7; zed 9; __wrap_foo 12 12; __real_foo 4 4; ";
+foo 12 12; bar 7 7; zed 9; __wrap_foo 12 12; __real_foo 4 4; 
+5 names";
