@@ -1,5 +1,5 @@
 -- What a contract sees of a symbol as its file lends it.
-use Rattle.link_input.specs.Symbols.{Symbol, Origin, symbol_of, stub_strength, in_prelude, in_object, in_script, in_stub}
+use Rattle.link_input.specs.Symbols.{Symbol, symbol_of, stub_strength, in_prelude, in_object, in_script, in_stub}
 use Rattle.link_symbols.specs.declared.view.SymbolOrigin.{SymbolOrigin}
 use Rattle.link_symbols.specs.declared.view.SymbolOrigin.TheVariants.{Prelude, Object, Script, Stub}
 

@@ -41,6 +41,7 @@ impl<'a, P: Platform> Model for AllSymbols<'a, P> {
 pub fn symbols<P: Platform>(files: &Files<P>) -> AllSymbols<'_, P>
     ensures { result ≡ record { next = 0; left = symbols_in files.now.groups } }
 {
+    // So ids name all of them, and no count of objects overflows.
     prove!(files.num_symbols() < 1 << 32);
     prove!(files.num_objects() <= usize::MAX);
     AllSymbols {

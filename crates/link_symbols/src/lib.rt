@@ -1,16 +1,16 @@
 //! All symbols of a link one after another, each as the definitions of a link see it.
 #![tactic(auto)]
 
+mod all_symbols;
 mod file_list;
 mod file_symbols;
 mod strengths;
-mod all_symbols;
 mod table;
 #[cfg(test)]
 mod tests;
 mod view;
 
-pub use strengths::{DiscardedSections, surviving_strengths};
 pub use all_symbols::{AllSymbols, symbols};
+pub use strengths::{DiscardedSections, surviving_strengths};
 pub use table::{FirstDefinitions, reference_table};
 pub use view::{SymbolOrigin, SymbolView};

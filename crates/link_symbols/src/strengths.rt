@@ -76,7 +76,7 @@ pub fn surviving_strengths<P: Platform, D: DiscardedSections>(
     ensures { IfOk result (λ strengths. strengths.items
         ≡ map (λ x. surviving_origin loaded.now (D.discarded discarded.now) x.origin) (symbols_in files.now.groups)) }
 {
-    let mut strengths = Vec::new(alloc);
+    let mut strengths = Vec::with_capacity(alloc, files.num_symbols())?;
     for (_, symbol) in symbols(files) {
         strengths.push(surviving_strength(&symbol, loaded, discarded))?;
     }

@@ -67,7 +67,7 @@ pub fn reference_table<P: Platform, M: FirstDefinitions>(
 ) -> Result<Vec<SymbolId>, AllocError>
     ensures { IfOk result (λ table. (l : Selection) → IsSelectionOf (symbols_in files.now.groups) (M.mapping names.now) targets.now l → table.items ≡ reference_table l) }
 {
-    let mut table = Vec::new(alloc);
+    let mut table = Vec::with_capacity(alloc, files.num_symbols())?;
     for (id, symbol) in symbols(files) {
         table.push(reference_entry(names, targets, id, &symbol))?;
     }

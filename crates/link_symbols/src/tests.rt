@@ -173,12 +173,14 @@ impl FirstDefinitions for NoNames {
 fn references_point_to_targets(rt: HostRuntime) -> Result<(), Fail> {
     let alloc = rt.alloc();
     let files = files(alloc)?;
-    let targets = [None, None, Some(SymbolId::from_usize(3))];
+    let shared = Some(SymbolId::from_usize(3));
+    let main = Some(SymbolId::from_usize(1));
+    let targets = [None, None, shared, None, main, None, None];
     let table = reference_table(alloc, &files, &NoNames, &targets)?;
     let mut text = String::new(alloc);
     for id in table.as_slice() {
         text.push_str(format!(in alloc; "{id} ")?.as_str())?;
     }
-    assert_eq!(rt; text.as_str(), "0 1 3 3 0 5 6 ");
+    assert_eq!(rt; text.as_str(), "0 1 3 3 1 5 6 ");
     Ok(())
 }

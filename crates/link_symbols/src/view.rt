@@ -224,7 +224,9 @@ impl<'a> SymbolView<'a> {
     {
         match &self.origin {
             SymbolOrigin::Object {
-                is_dynamic, row, ..
+                is_dynamic,
+                row,
+                ..
             } => *is_dynamic && row.is_hidden(),
             _ => false,
         }

@@ -8,4 +8,4 @@ returns-then-self-num_files-clause-steps g c =
     let here = c.loop-group.self-inside in
     let some = c.in-Some in
     let next = files-next here.place here.groups.now some.group.now some.rest.now (sequenced_file c.file-file.result) some.ensures.cases.0 c.file-file.ensures in
-    sym c.self.view_is ∙ (sym c.loop-group.invariant ∙ next)
+    ◌∙◌ {a = c.args.self.now} (sym c.self.view_is) (sym c.loop-group.invariant ∙ next)
