@@ -1,0 +1,4 @@
+pub mod ObjectGroups
+pub mod Tables
+pub mod Selected
+pub mod InOrder

@@ -1,0 +1,15 @@
+//! Which section groups of the loaded regular objects are kept, and what is asked of the groups of one object.
+#![tactic(auto)]
+
+mod candidate;
+mod group_sections;
+mod participation;
+mod section_groups;
+mod selection;
+mod signatures;
+mod tables;
+
+pub use candidate::Candidate;
+pub use group_sections::GroupSections;
+pub use section_groups::ObjectSectionGroups;
+pub use selection::Selection;
