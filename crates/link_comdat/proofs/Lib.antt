@@ -7,3 +7,5 @@ pub mod Placed
 pub mod FirstMet
 pub mod Rising
 pub mod OneByOne
+pub mod Discarding
+pub mod Visiting

@@ -17,7 +17,7 @@ abbrev with_member : ℕ → ℕ → List SectionGroup → Option ℕ
 with_member section i groups = first_place (λ j g. contains section g.members) i groups
 
 -- the same among groups that are pending
-abbrev pending_with : ℕ → ℕ → List SectionGroup → List Bool → Option ℕ
+abbrev pub pending_with : ℕ → ℕ → List SectionGroup → List Bool → Option ℕ
 pending_with section i groups pending = first_place (λ j g. g.1 && contains section g.0.members) i (zip groups pending)
 
 -- the truth value at a place that counts from another on
@@ -29,7 +29,7 @@ option_or-none None b e = (refl, e)
 option_or-none (Some x) b e = cc
 
 -- a section that is a member of no group is one of no pending group
-none_pending : (section i : ℕ) (groups : List SectionGroup) (pending : List Bool) → contains section (members_of groups) ≡ false → pending_with section i groups pending ≡ None
+pub none_pending : (section i : ℕ) (groups : List SectionGroup) (pending : List Bool) → contains section (members_of groups) ≡ false → pending_with section i groups pending ≡ None
 none_pending section i [] pending absent = refl
 none_pending section i (g ∷ gs) [] absent = refl
 none_pending section i (g ∷ gs) (p ∷ ps) absent =

@@ -9,12 +9,12 @@ use Rattle.link_rules.specs.Comdat.{GroupPlace, PlacedGroup, is_before, groups_o
 use Rattle.link_comdat.proofs.FirstMet.{AreBehind, AreInOrder}
 
 -- the objects have places from a number on
-pub AreFrom : ℕ → List (ℕ × ObjectFile) → Type 0
+unfoldable pub AreFrom : ℕ → List (ℕ × ObjectFile) → Type 0
 AreFrom n [] = Unit {0}
 AreFrom n (o ∷ os) = (n ≤ o.0) × AreFrom n os
 
 -- the places rise
-pub AreRising : List (ℕ × ObjectFile) → Type 0
+unfoldable pub AreRising : List (ℕ × ObjectFile) → Type 0
 AreRising [] = Unit {0}
 AreRising (o ∷ os) = AreFrom (o.0 + 1) os × AreRising os
 
@@ -42,6 +42,40 @@ pub rising : (objects : List (ℕ × ObjectFile)) → IsStrictlyIncreasing (map 
 unfolding AreRising
 rising [] rise = tt
 rising (o ∷ os) rise = (from_rising o os rise, rising os (tail_rises o.0 (map (λ x. x.0) os) rise))
+
+-- what stands in a filter of objects with places from a number on
+from-filter : (p : ℕ × ObjectFile → Bool) (n : ℕ) (objects : List ObjectFile) → AreFrom n (filter p (enumerate_from n objects))
+unfolding AreFrom
+from-filter p n [] = tt
+from-filter p n (o ∷ os) = by (p (n, o)) (from_later n (n + 1) (filter p (enumerate_from (n + 1) os)) (omega arith) (from-filter p (n + 1) os))
+  where
+    by : (b : Bool) → AreFrom n (filter p (enumerate_from (n + 1) os)) → AreFrom n (cond b ((n, o) ∷ filter p (enumerate_from (n + 1) os)) (filter p (enumerate_from (n + 1) os)))
+    by true rest = (omega arith, rest)
+    by false rest = rest
+
+-- some of a list of objects, each with its place, rise
+pub rising-filter : (p : ℕ × ObjectFile → Bool) (n : ℕ) (objects : List ObjectFile) → AreRising (filter p (enumerate_from n objects))
+unfolding AreRising
+rising-filter p n [] = tt
+rising-filter p n (o ∷ os) = by (p (n, o)) (rising-filter p (n + 1) os)
+  where
+    by : (b : Bool) → AreRising (filter p (enumerate_from (n + 1) os)) → AreRising (cond b ((n, o) ∷ filter p (enumerate_from (n + 1) os)) (filter p (enumerate_from (n + 1) os)))
+    by true rest = (from-filter p (n + 1) os, rest)
+    by false rest = rest
+
+-- places that rise, rise one by one
+pub one-by-one : (objects : List (ℕ × ObjectFile)) → AreRising objects → IsStrictlyIncreasing (map (λ o. o.0) objects)
+unfolding AreRising AreFrom
+one-by-one [] rise = λ k lt. absurd (omega arith)
+one-by-one (o ∷ []) rise = λ k lt. absurd (omega arith)
+one-by-one (o ∷ p ∷ ps) rise = λ k lt. at k lt (one-by-one (p ∷ ps) rise.1)
+  where
+    at : (k : ℕ) → k + 1 < length (map (λ (x : ℕ × ObjectFile). x.0) (o ∷ p ∷ ps)) → IsStrictlyIncreasing (map (λ (x : ℕ × ObjectFile). x.0) (p ∷ ps))
+        → slice_index (map (λ (x : ℕ × ObjectFile). x.0) (o ∷ p ∷ ps)) k < slice_index (map (λ (x : ℕ × ObjectFile). x.0) (o ∷ p ∷ ps)) (k + 1)
+    at zero lt later = omega (arith, rise.0.0)
+    at (suc k) lt later =
+        let next : suc k + 1 ≡ suc (k + 1) = omega arith in
+        rw next (later k (omega arith))
 
 -- ---- their groups
 

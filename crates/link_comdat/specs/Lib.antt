@@ -2,3 +2,4 @@ pub mod ObjectGroups
 pub mod Tables
 pub mod Selected
 pub mod InOrder
+pub mod Lending

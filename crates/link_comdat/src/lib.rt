@@ -3,6 +3,7 @@
 
 mod candidate;
 mod group_sections;
+mod laws;
 mod participation;
 mod section_groups;
 mod selection;
@@ -11,5 +12,6 @@ mod tables;
 
 pub use candidate::Candidate;
 pub use group_sections::GroupSections;
+pub use laws::{a_group_is_visited_once, selected_groups_are_those_of_a_link};
 pub use section_groups::ObjectSectionGroups;
 pub use selection::Selection;

@@ -10,6 +10,8 @@ ghost use Rattle.link_loader.specs.Causes.{TellsCause};
 ghost use Rattle.link_comdat.specs.InOrder.{is_met, met_with, object_in_order};
 ghost use Rattle.link_comdat.specs.Tables.{AreInside, members_of, group_with, group_at};
 ghost use Rattle.link_comdat.specs.Selected.{selected};
+ghost use Rattle.link_comdat.specs.Lending.{LendsGroups};
+ghost use Rattle.std.specs.Borrow.{sem};
 
 use crate::candidate::Candidate;
 use crate::section_groups::ObjectSectionGroups;
@@ -71,6 +73,15 @@ impl Selection {
         ensures { slice_get self.now.objects object ≡ Some result.now }
     {
         &self.objects[object]
+    }
+
+    /// The groups of the object at this index, to be changed.
+    pub fn section_groups_mut(&mut self, object: usize) -> &mut ObjectSectionGroups
+        requires { object < length self.old.objects }
+        ensures* writes_back { sem 𝓛 (LendsGroups self.entry object result) }
+        ensures value { slice_get self.old.objects object ≡ Some result.now }
+    {
+        &mut self.objects[object]
     }
 
     /// How many objects there are.
