@@ -1,0 +1,11 @@
+pub mod Noting
+pub mod Marks
+pub mod Pending
+pub mod Keeping
+pub mod MetNames
+pub mod Placed
+pub mod FirstMet
+pub mod Rising
+pub mod OneByOne
+pub mod Discarding
+pub mod Visiting
