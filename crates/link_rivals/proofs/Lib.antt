@@ -5,3 +5,5 @@ pub mod Passes
 pub mod SettlePass
 pub mod Joining
 pub mod NarrowPass
+pub mod NameLists
+pub mod Tables

@@ -7,10 +7,14 @@ use Rattle.std.proofs.lemmas.Bool.Decides.{eqb_tells}
 use Rattle.link_input.specs.Symbols.{Symbol, is_shared}
 use Rattle.link_rules.specs.Flags.{flags_if}
 use Rattle.link_rules.specs.Marking.{visibility_flags}
-use Rattle.link_rules.specs.Places.{are_several, contains, first_of, is_number}
-use Rattle.link_rules.specs.Visibility.{list_flags, strictest}
+use Rattle.link_closure.proofs.Joins.{or_assoc}
+use Rattle.link_rules.proofs.PlainPlaces.{all-places, each-same}
+use Rattle.link_rules.proofs.Settled.{slice_index-each_from}
+use Rattle.link_rules.specs.Places.{are_several, contains, each_from, first_of, is_number}
+use Rattle.link_rules.specs.Rivals.{plain_list, versioned_list}
+use Rattle.link_rules.specs.Visibility.{list_flags, narrowed_symbol, strictest}
 use Rattle.link_rules.specs.World.{Stage}
-use Rattle.link_rivals.specs.Lists.{AreLists}
+use Rattle.link_rivals.specs.Lists.{AreLists, plain_lists, versioned_lists}
 use Rattle.link_rivals.specs.Narrowed.{flags_by, joined_unless, narrowed, narrowed_by, narrowed_on}
 use Rattle.link_rivals.proofs.Heads.{same-number}
 use Rattle.link_rivals.proofs.Passes.{contained, done_below, done_on, done-all, done-more, list-is, list-shared}
@@ -96,3 +100,17 @@ module _ (w : Stage) (listed : ℕ → List ℕ) (n : ℕ) (are : AreLists liste
           (λ none. few-flags w (listed s) s (slice_index old s) (ap are_several none))
           ∙ ap (λ o. bit_or (slice_index old s) (option_map_or (λ (y : Symbol). list_flags w y (listed s)) o 0)) at
           ∙ ap (λ k. narrowed_by w listed old k x) first
+
+-- narrowing by plain names and then by names with versions gives the flags of both lists
+pub narrowed-twice : (w : Stage) (flags : List ℕ) → narrowed w (versioned_lists w) (narrowed w (plain_lists w) flags) ≡ each_from (narrowed_symbol w flags) 0 w.symbols
+narrowed-twice w flags =
+    each-same (narrowed_by w (versioned_lists w) (narrowed w (plain_lists w) flags)) (narrowed_symbol w flags) 0 w.symbols
+    (all-places (λ s x. narrowed_by w (versioned_lists w) (narrowed w (plain_lists w) flags) s x ≡ narrowed_symbol w flags s x) w.symbols each)
+  where
+    each : (s : ℕ) (x : Symbol) → slice_get w.symbols s ≡ Some x → narrowed_by w (versioned_lists w) (narrowed w (plain_lists w) flags) s x ≡ narrowed_symbol w flags s x
+    each s x at =
+        let zero_add : 0 + s ≡ s = omega arith in
+        ap (λ f. bit_or f (list_flags w x (versioned_lists w s)))
+        (slice_index-each_from (narrowed_by w (plain_lists w) flags) 0 w.symbols s x at ∙ ap (λ k. narrowed_by w (plain_lists w) flags k x) zero_add)
+        ∙ or_assoc (slice_index flags s) (list_flags w x (plain_lists w s)) (list_flags w x (versioned_lists w s))
+        ∙ ap (λ o. bit_or (slice_index flags s) (bit_or (list_flags w x (option_map_or (plain_list w) o [])) (list_flags w x (option_map_or (versioned_list w) o [])))) at

@@ -1,8 +1,11 @@
 -- What each symbol points to once lists of rivals are settled, and which of their entries clash.
-use Rattle.std.specs.Prelude.{ℕ, ◌&&◌, List, map, Option, None, if◌then◌else◌, length, filter_map, option_map, slice_index}
+use Rattle.std.specs.Prelude.{ℕ, ◌&&◌, List, [], map, slice_get, Option, None, if◌then◌else◌, length, filter_map, option_map, slice_index}
 use Rattle.std.specs.List.{range_with_len}
-use Rattle.link_rules.specs.Places.{contains, each_from, first_of, are_several, is_number}
+use Rattle.std.specs.Option.{option_map_or}
+use Rattle.link_rules.specs.Places.{Bytes, contains, each_from, first_of, are_several, is_number}
 use Rattle.link_rules.specs.Rivals.{clash, settled_entry, stand_in}
+use Rattle.link_rules.specs.Refusals.{duplicate_line}
+use Rattle.link_rules.specs.World.{Stage}
 use Rattle.link_rules.specs.Selection.{Selection}
 use Rattle.link_rivals.specs.declared.settling.Clash.{Clash}
 
@@ -26,6 +29,14 @@ clash_at l own table s =
 -- the clashes of all lists, in the order of their heads
 abbrev pub clashes : Selection → (ℕ → List ℕ) → List ℕ → List Clash
 clashes l listed table = filter_map (λ s. clash_at l (listed s) table s) (range_with_len 0 (length table))
+
+-- the name of the symbol of this id
+abbrev pub name_at : Stage → ℕ → Bytes
+name_at w s = option_map_or (λ x. x.name) (slice_get w.symbols s) []
+
+-- the line of a clash: the name of the head with the files of two definitions
+abbrev pub clash_line : Stage → Clash → Bytes
+clash_line w c = duplicate_line w (name_at w c.head) (c.first, c.second)
 
 -- what a symbol points to once this list alone is settled
 abbrev pub settled_among : Selection → List ℕ → List ℕ → ℕ → ℕ

@@ -2,11 +2,18 @@
 //! a trait, and what is known of symbols in columns by their ids, so nothing here knows a database.
 #![tactic(auto)]
 
+mod laws;
 mod lists;
 mod narrowing;
 mod settling;
 mod survivors;
+#[cfg(test)]
+mod tests;
 
+pub use laws::{
+    clashes_are_the_duplicates, names_make_lists, narrowing_twice_joins_both,
+    settling_gives_the_tables,
+};
 pub use lists::RivalLists;
 pub use narrowing::narrow;
 pub use settling::{Clash, settle};
