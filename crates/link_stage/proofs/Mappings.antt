@@ -1,19 +1,17 @@
 -- What names are mapped to, by the files alone.
-use Rattle.std.proofs.Common.{◌≡◌, ◌∙◌, ◌++◌, ℕ, List, [], ◌∷◌, Option, Some, None, refl, sym, ap, subst, if◌then◌else◌}
-use Rattle.std.specs.Prelude.{codes, fold}
-use Rattle.std.specs.List.{flat_map}
+use Rattle.std.proofs.Common.{◌≡◌, ◌∙◌, ℕ, List, [], ◌∷◌, Option, None, sym, ap, subst}
+use Rattle.std.specs.Prelude.{fold}
 use Rattle.std.specs.Option.{option_or}
-use Rattle.std.specs.Str.{bytes_eq}
 use Rattle.link_buckets.specs.Keys.{Key}
 use Rattle.link_input.specs.declared.options.Options.{Options}
 use Rattle.link_input.specs.declared.world.Scripts.{Scripts}
-use Rattle.link_input.specs.InputFiles.{Batch, input_files}
-use Rattle.link_input.specs.Symbols.{Symbol, symbols_of}
+use Rattle.link_input.specs.InputFiles.{Batch}
+use Rattle.link_input.specs.Symbols.{Symbol}
 use Rattle.link_groups.specs.declared.group.Group.{Group}
 use Rattle.link_groups.specs.Held.{AreGroupsOf}
-use Rattle.link_rules.specs.Names.{Mapping, mapping_with, original_of, wrapped, unwrapped, first_definition, definitions_of, versioned_definitions_of}
+use Rattle.link_rules.specs.Names.{Mapping, wrapped, unwrapped, definitions_of, versioned_definitions_of}
 use Rattle.link_rules.specs.Places.{Bytes, first_of}
-use Rattle.link_rules.specs.Rules.{PlatformRules, rules_of}
+use Rattle.link_rules.specs.Rules.{PlatformRules}
 use Rattle.link_rules.specs.World.{Stage}
 use Rattle.link_loader.specs.Holds.{HoldsTexts}
 use Rattle.link_loader.specs.ReadTexts.{ReadTexts}
@@ -88,6 +86,6 @@ comes-to {P} platform demangle texts first later old new w holds anew names has 
         versioned = λ name version. ap (λ (f : Key → List ℕ). f (versioned_key name version)) lists ∙ listed.versioned name version;
       };
       names = λ name. names name
-        ∙ (ap (λ (f : Mapping). fold wrapped f old.options.wrap name) (unwrapped-at old.mapping w.symbols listed holds.overridden)
-        ∙ ap (λ (o : Options). fold wrapped (unwrapped w.symbols) o.wrap name) (sym has.options));
+          ∙ (ap (λ (f : Mapping). fold wrapped f old.options.wrap name) (unwrapped-at old.mapping w.symbols listed holds.overridden)
+          ∙ ap (λ (o : Options). fold wrapped (unwrapped w.symbols) o.wrap name) (sym has.options));
     }

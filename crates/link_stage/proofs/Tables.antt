@@ -1,19 +1,17 @@
 -- What a database knows of names and symbols, and the table of names of its stage.
-use Rattle.std.proofs.Common.{◌≡◌, ◌∙◌, ◌++◌, ℕ, Bool, false, List, [], ◌∷◌, map, Option, Some, None, refl, sym, ap, append-nil}
-use Rattle.std.specs.Prelude.{slice_get, option_map}
-use Rattle.std.specs.Option.{option_map_or, option_or}
-use Rattle.link_flags.specs.declared.strength.SymbolStrength.{SymbolStrength}
+use Rattle.std.proofs.Common.{◌≡◌, ◌∙◌, ◌++◌, ℕ, zero, suc, false, List, [], ◌∷◌, map, refl, sym, ap, append-nil}
+use Rattle.std.specs.Prelude.{slice_get}
+use Rattle.std.specs.Option.{option_map_or}
 use Rattle.link_flags.specs.declared.strength.SymbolStrength.TheVariants.{Undefined}
 use Rattle.link_input.specs.Symbols.{Symbol, binding_strength, is_shared}
-use Rattle.link_rules.specs.Names.{definitions_of, first_versioned_definition, later_definitions}
+use Rattle.link_rules.specs.Names.{later_definitions}
 use Rattle.link_rules.specs.Places.{Bytes, behind_head, first_of}
 use Rattle.link_rules.specs.Rules.{PlatformRules, Rules}
-use Rattle.link_rules.specs.Targets.{NameTable, is_open, name_table, strength_at, target, target_in}
-use Rattle.link_rules.specs.World.{Stage, is_shared_at}
+use Rattle.link_rules.specs.Targets.{NameTable, is_open, name_table, target, target_in}
+use Rattle.link_rules.specs.World.{Stage}
 use Rattle.link_files.specs.GroupFiles.{symbols_in}
-use Rattle.link_files.specs.HeldFiles.{HeldFiles, is_shared_in, names_in, strength_of}
-use Rattle.link_mapping.specs.Keys.{plain_key, versioned_key}
-use Rattle.link_mapping.specs.Mapped.{Mapped, later_in, mapped_key}
+use Rattle.link_mapping.specs.Keys.{plain_key}
+use Rattle.link_mapping.specs.Mapped.{later_in}
 use Rattle.link_db.specs.Database.{Database, name_table_of}
 use Rattle.link_stage.specs.AtStage.{IsAtStage}
 

@@ -29,17 +29,17 @@ pub record IsAtStage {P : Type 0} (platform : PlatformRules) (demangle : Bytes �
   pub names : (name : Bytes) → mapping_of db.mapping name ≡ first_definition w name
 
 -- the files of these batches were added, of whose linker scripts those of the first batch count, and no name is overridden yet
-pub record HoldsBatches {P : Type 0} (platform : PlatformRules) (texts : Scripts) (first : Batch) (later : List Batch) (db : Database P) : Type 0 where
+pub record HoldsBatches {P : Type 0} (platform : PlatformRules) (given : Scripts) (first : Batch) (later : List Batch) (db : Database P) : Type 0 where
   pub groups : AreGroupsOf db.options (first ∷ later) db.mapping.files.groups
   pub lists : AreListed (symbols_in db.mapping.files.groups) db.mapping
   pub overridden : db.mapping.overridden ≡ (λ name. None)
   pub added : db.mapping.files.added ≡ []
-  pub texts : HoldsTexts platform db.options texts first.scripts db.rules
+  pub texts : HoldsTexts platform db.options given first.scripts db.rules
 
 -- a stage of a link by these rules, with the files of these batches
-pub record HasBatches (platform : PlatformRules) (demangle : Bytes → Bytes) (options : Options) (texts : Scripts) (first : Batch) (later : List Batch) (w : Stage) : Type 0 where
+pub record HasBatches (platform : PlatformRules) (demangle : Bytes → Bytes) (given : Options) (texts : Scripts) (first : Batch) (later : List Batch) (w : Stage) : Type 0 where
   pub objects : w.objects ≡ flat_map (λ b. b.objects) (first ∷ later)
   pub scripts : w.scripts ≡ flat_map (λ b. b.scripts) (first ∷ later)
-  pub symbols : w.symbols ≡ symbols_of 0 (input_files options (first ∷ later))
-  pub options : w.options ≡ options
-  pub rules : w.rules ≡ rules_of platform demangle options texts first.scripts
+  pub symbols : w.symbols ≡ symbols_of 0 (input_files given (first ∷ later))
+  pub options : w.options ≡ given
+  pub rules : w.rules ≡ rules_of platform demangle given texts first.scripts

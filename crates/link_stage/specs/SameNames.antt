@@ -1,5 +1,5 @@
 -- Two databases of the same batches.
-use Rattle.std.specs.Prelude.{◌≡◌, ℕ, List}
+use Rattle.std.specs.Prelude.{ℕ, List}
 use Rattle.link_input.specs.declared.options.Options.{Options}
 use Rattle.link_input.specs.InputFiles.{Batch}
 use Rattle.link_groups.specs.Held.{AreGroupsOf}

@@ -19,25 +19,27 @@ ghost use Rattle.link_db.specs.Overrides.{IsMappedAnew};
 ghost use Rattle.link_stage.specs.AtStage.{HasBatches, HoldsBatches, IsAtStage};
 ghost use Rattle.link_stage.specs.SameNames.{AreOfBatches};
 
+use link_input::Platform;
+
 /// The definitions of each name, and what it is mapped to before names are wrapped, follow from the files alone: neither the number
 /// of workers shows, and so of buckets, nor the cutting into groups.
-pub fn names_follow_from_the_files()
-    ensures lists { {P : Type 0} (options : Options) (m n : ℕ) (batches : List Batch) (a b : Mapped P)
+pub fn names_follow_from_the_files<P: Platform>()
+    ensures lists { (options : Options) (m n : ℕ) (batches : List Batch) (a b : Mapped P)
         → AreOfBatches options m batches a → AreOfBatches options n batches b → (key : Key) → a.lists key ≡ b.lists key }
-    ensures mapping { {P : Type 0} (options : Options) (m n : ℕ) (batches : List Batch) (a b : Mapped P)
+    ensures mapping { (options : Options) (m n : ℕ) (batches : List Batch) (a b : Mapped P)
         → AreOfBatches options m batches a → AreOfBatches options n batches b → a.overridden ≡ b.overridden → (name : Bytes) → mapping_of a name ≡ mapping_of b name }
 {}
 
 /// Once the files of the batches are added and the names of the options are wrapped, a database is at the stage of these batches.
-pub fn a_database_comes_to_its_stage()
-    ensures { {P : Type 0} (platform : PlatformRules) (demangle : Bytes → Bytes) (texts : Scripts) (first : Batch) (later : List Batch) (old new : Database P) (w : Stage)
+pub fn a_database_comes_to_its_stage<P: Platform>()
+    ensures { (platform : PlatformRules) (demangle : Bytes → Bytes) (texts : Scripts) (first : Batch) (later : List Batch) (old new : Database P) (w : Stage)
         → HoldsBatches platform texts first later old → IsMappedAnew old new
         → ((name : Bytes) → mapping_of new.mapping name ≡ fold wrapped (mapping_of old.mapping) old.options.wrap name)
         → HasBatches platform demangle old.options texts first later w → IsAtStage platform demangle new w }
 {}
 
 /// What a database answers for a reference is the reference's target at the stage.
-pub fn a_reference_stands_for_its_target()
-    ensures { {P : Type 0} (platform : PlatformRules) (demangle : Bytes → Bytes) (db : Database P) (w : Stage) → IsAtStage platform demangle db w
+pub fn a_reference_stands_for_its_target<P: Platform>()
+    ensures { (platform : PlatformRules) (demangle : Bytes → Bytes) (db : Database P) (w : Stage) → IsAtStage platform demangle db w
         → (u : Symbol) → target_in platform.weak_overrides_common (name_table_of db) (is_open u) u.name u.version ≡ target w u }
 {}

@@ -2,4 +2,4 @@ use Rattle.link_stage.proofs.Tables.{stands-for}
 use Rattle.link_stage.proofs.a_reference_stands_for_its_target.Goals as goal
 
 pub returns : goal.returns
-returns c = stands-for
+returns g c = stands-for

@@ -1,0 +1,4 @@
+pub mod Listed
+pub mod Edges
+pub mod Below
+pub mod GroupObjects
