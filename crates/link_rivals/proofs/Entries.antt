@@ -1,5 +1,5 @@
 -- Entries of a list, from the first on.
-use Rattle.std.proofs.Common.{◌≡◌, ◌++◌, ◌∙◌, ◌+◌, ◌<◌, ◌&&◌, ℕ, Bool, true, false, List, [], ◌∷◌, All, Option, Some, None, refl, sym, ap, subst, length, get_or, drop, map, cond, find, filter, option_map, if◌then◌else◌}
+use Rattle.std.proofs.Common.{◌≡◌, ◌++◌, ◌∙◌, ◌+◌, ◌<◌, ◌&&◌, ℕ, Bool, true, false, List, [], ◌∷◌, All, Option, Some, None, refl, sym, ap, subst, length, get_or, drop, map, find, option_map, if◌then◌else◌}
 use Rattle.std.specs.Prelude.{◌==◌, IfSome, fold, not}
 use Rattle.std.proofs.lemmas.Grind.{fold-append}
 use Rattle.std.proofs.lemmas.List.{at_drop_more}
@@ -10,7 +10,7 @@ use Rattle.link_flags.specs.declared.strength.SymbolStrength.{SymbolStrength}
 use Rattle.link_flags.specs.declared.selector.SymbolPrioritySelector.{SymbolPrioritySelector}
 use Rattle.link_rules.proofs.Settled.{pick_in, some_same}
 use Rattle.link_rules.specs.Places.{first_of, first_two}
-use Rattle.link_rules.specs.Rivals.{static_candidates, static_entries}
+use Rattle.link_rules.specs.Rivals.{static_candidates}
 use Rattle.link_rules.specs.Selection.{Selection, is_dynamic, surviving_strength}
 use Rattle.link_rivals.specs.Survivors.{strong_entries}
 use Rattle.link_rivals.proofs.Heads.{same-number}
@@ -69,10 +69,11 @@ two-differ (x ∷ xs) first second one other =
 pub candidate-more : (n : ℕ) (cs : List Candidate) (known next : SymbolPrioritySelector) (x : ℕ) (strength : SymbolStrength) → known ≡ considered cs
     → All (λ c. c.0 < n) cs → x < n → next ≡ after known (x, strength)
     → (candidates : List Candidate) × (next ≡ considered candidates) × All (λ c. c.0 < n) candidates
-candidate-more n cs known next x strength is all lt more =
-    (cs ++ (x, strength) ∷ [],
-    more ∙ ap (λ k. after k (x, strength)) is ∙ sym (fold-append after nothing cs ((x, strength) ∷ [])),
-    All-push (λ (c : Candidate). c.0 < n) cs (x, strength) all lt)
+candidate-more n cs known next x strength is all lt more = (
+  cs ++ (x, strength) ∷ [],
+  more ∙ ap (λ k. after k (x, strength)) is ∙ sym (fold-append after nothing cs ((x, strength) ∷ [])),
+  All-push (λ (c : Candidate). c.0 < n) cs (x, strength) all lt,
+)
 
 -- an entry of a list whose entries are below a number is below it
 pub entry-inside : (n : ℕ) (entries : List ℕ) (i x : ℕ) → All (λ e. e < n) entries → i < length entries → x ≡ get_or entries i x → x < n

@@ -32,17 +32,17 @@ joined-word dynamic bits at ws w d s lt regular is =
 
     here : (if at == s then w.0 else slice_index (numbers_of ws) s) ≡ (if at == s then joined_unless dynamic bits s (slice_index (numbers_of ws) s) else slice_index (numbers_of ws) s)
     here = elim (eqb_tells at s) [
-        | inl told ↦ rw told.0 (subst (λ k. w.0 ≡ joined_unless dynamic bits k (slice_index (numbers_of ws) k)) told.1 at-word)
-        | inr told ↦ rw told.0 refl
-      ]
+      | inl told ↦ rw told.0 (subst (λ k. w.0 ≡ joined_unless dynamic bits k (slice_index (numbers_of ws) k)) told.1 at-word)
+      | inr told ↦ rw told.0 refl
+    ]
 
 -- a dynamic one stays
 pub joined-none : (dynamic : List Bool) (bits at : ℕ) (ns : List ℕ) (s : ℕ) → slice_index_or dynamic at true ≡ true
     → slice_index ns s ≡ (if at == s then joined_unless dynamic bits s (slice_index ns s) else slice_index ns s)
 joined-none dynamic bits at ns s shared = elim (eqb_tells at s) [
-    | inl told ↦ rw told.0 (sym (ap (λ b. bit_or (slice_index ns s) (flags_if (not b) bits)) (ap (λ k. slice_index_or dynamic k true) (sym told.1) ∙ shared) ∙ or_zero_r (slice_index ns s)))
-    | inr told ↦ rw told.0 refl
-  ]
+  | inl told ↦ rw told.0 (sym (ap (λ b. bit_or (slice_index ns s) (flags_if (not b) bits)) (ap (λ k. slice_index_or dynamic k true) (sym told.1) ∙ shared) ∙ or_zero_r (slice_index ns s)))
+  | inr told ↦ rw told.0 refl
+]
 
 -- bits that are there are not added again
 joined-twice : (dynamic : List Bool) (bits s old : ℕ) → joined_unless dynamic bits s (joined_unless dynamic bits s old) ≡ joined_unless dynamic bits s old

@@ -7,3 +7,4 @@ pub mod Joining
 pub mod NarrowPass
 pub mod NameLists
 pub mod Tables
+pub mod TwoLists

@@ -1,12 +1,12 @@
 -- The definitions of plain names make lists of rivals, and so do those of names with versions.
-use Rattle.std.proofs.Common.{◌≡◌, ◌∙◌, ◌+◌, ◌<◌, ◌&&◌, ℕ, zero, suc, Bool, true, false, List, [], ◌∷◌, Contains, Option, Some, None, refl, sym, ap, subst, arith, length, if◌then◌else◌, slice_get}
+use Rattle.std.proofs.Common.{◌≡◌, ◌∙◌, ◌<◌, ◌&&◌, ℕ, zero, suc, Bool, true, false, List, [], ◌∷◌, Contains, Option, Some, None, refl, ap, arith, length, if◌then◌else◌, slice_get}
 use Rattle.std.specs.Option.{option_map_or}
 use Rattle.std.specs.Str.{bytes_eq}
 use Rattle.std.proofs.lemmas.List.Elements.{All-contains, All-from_recursion}
 use Rattle.std.proofs.lemmas.Slice.Eq.{bytes_eq-Decides}
 use Rattle.link_input.specs.Symbols.{Symbol}
 use Rattle.link_rules.proofs.PlainPlaces.{all-places, place-in, places-all}
-use Rattle.link_rules.proofs.Settled.{IsListedAt, both_true, listed_in, none_some, nothing_in}
+use Rattle.link_rules.proofs.Settled.{both_true, listed_in, none_some, nothing_in}
 use Rattle.link_rules.specs.Names.{definitions_of, is_listed, is_version_listed, versioned_definitions_of}
 use Rattle.link_rules.specs.Places.{Bytes, places_from, same_version}
 use Rattle.link_rules.specs.Rivals.{plain_list, versioned_list}
@@ -120,9 +120,11 @@ versioned-lists w = lists-of (versioned_list w) w.symbols (record {
     same-by x t false version within = absurd (nothing_in t within)
     same-by x t true None within = absurd (nothing_in t within)
     same-by x t true (Some v) within =
-        let (y, there) = versioned_in w x.name v t within in
-        (y, there.at,
-        ap (λ b. version_list w b y.name y.version) there.listed ∙ ap (λ name. version_list w true name y.version) there.named ∙ ap (version_list w true x.name) there.of)
+        let (y, there) = versioned_in w x.name v t within in (
+          y,
+          there.at,
+          ap (λ b. version_list w b y.name y.version) there.listed ∙ ap (λ name. version_list w true name y.version) there.named ∙ ap (version_list w true x.name) there.of,
+        )
 
     itself-by : (s : ℕ) (x : Symbol) (t : ℕ) → slice_get w.symbols s ≡ Some x → (b : Bool) → is_version_listed x ≡ b → (version : Option Bytes) → x.version ≡ version
         → Contains (version_list w b x.name version) t → Contains (version_list w b x.name version) s

@@ -75,12 +75,12 @@ module _ (w : Stage) (listed : ℕ → List ℕ) (n : ℕ) (are : AreLists liste
       by : (own : List ℕ) → listed i ≡ own → narrowed_on w own i s now ≡ done_on (narrowed_at w listed) own i s now
       by [] is = refl
       by (x ∷ xs) is = elim (eqb_tells x i) [
-          | inl told ↦
-              let headed : listed i ≡ i ∷ xs = is ∙ ap (λ h. h ∷ xs) told.1 in
-              subst (λ h. narrowed_on w (h ∷ xs) i s now ≡ done_on (narrowed_at w listed) (h ∷ xs) i s now) (sym told.1)
-              (ap (λ flags. if i == i then flags else now) (among xs headed (contains s (i ∷ xs)) refl))
-          | inr told ↦ rw told.0 refl
-        ]
+        | inl told ↦
+            let headed : listed i ≡ i ∷ xs = is ∙ ap (λ h. h ∷ xs) told.1 in
+            subst (λ h. narrowed_on w (h ∷ xs) i s now ≡ done_on (narrowed_at w listed) (h ∷ xs) i s now) (sym told.1)
+            (ap (λ flags. if i == i then flags else now) (among xs headed (contains s (i ∷ xs)) refl))
+        | inr told ↦ rw told.0 refl
+      ]
 
   -- one head more
   pub narrowed-more : (i s now : ℕ) → now ≡ done_below listed (narrowed_at w listed) (slice_index old) i s

@@ -1,6 +1,6 @@
 -- A pass over all heads comes to each list once.
 use Rattle.std.proofs.Common.{◌≡◌, ◌∙◌, ◌+◌, ◌<◌, ◌≤◌, ℕ, zero, suc, Bool, true, false, List, [], ◌∷◌, Contains, Some, None, refl, sym, ap, subst, inl, inr, arith, length, if◌then◌else◌, slice_get, slice_index}
-use Rattle.std.specs.Prelude.{◌==◌, nat_lt}
+use Rattle.std.specs.Prelude.{nat_lt}
 use Rattle.std.proofs.lemmas.Bool.Decides.{eqb_tells, nat_tests}
 use Rattle.link_rules.proofs.Settled.{here, here_or_there, nothing_in, some_same, there}
 use Rattle.link_rules.specs.Places.{contains, each_from, first_of, is_number}
@@ -12,34 +12,29 @@ abbrev pub is_passed : ℕ → List ℕ → Bool
 is_passed i [] = false
 is_passed i (x ∷ xs) = nat_lt x i
 
--- at first all is as it was
-pub passed-none : (own : List ℕ) → is_passed 0 own ≡ false
-passed-none [] = refl
-passed-none (x ∷ xs) = grind (arith, nat_tests)
-
 -- what is asked of a list says that it is in it
 pub contained : (s : ℕ) (xs : List ℕ) → contains s xs ≡ true → Contains xs s
 contained s [] is = cc
 contained s (x ∷ xs) is = elim (eqb_tells x s) [
-    | inl told ↦ subst (λ t. Contains (x ∷ xs) t) told.1 (here x xs)
-    | inr told ↦ let rest : contains s xs ≡ true = rw told.0 at is in there x xs s (contained s xs rest)
-  ]
+  | inl told ↦ subst (λ t. Contains (x ∷ xs) t) told.1 (here x xs)
+  | inr told ↦ let rest : contains s xs ≡ true = rw told.0 at is in there x xs s (contained s xs rest)
+]
 
 -- what is in a list is found there
 pub containing : (s : ℕ) (xs : List ℕ) → Contains xs s → contains s xs ≡ true
 containing s [] within = absurd (nothing_in s within)
 containing s (x ∷ xs) within = elim (eqb_tells x s) [
-    | inl told ↦ rw told.0 refl
-    | inr told ↦ rw told.0 (elim (here_or_there x xs s within) [ inl same ↦ absurd (told.1 same) | inr deeper ↦ containing s xs deeper ])
-  ]
+  | inl told ↦ rw told.0 refl
+  | inr told ↦ rw told.0 (elim (here_or_there x xs s within) [ inl same ↦ absurd (told.1 same) | inr deeper ↦ containing s xs deeper ])
+]
 
 -- where no list of a symbol begins with the number, one number more changes nothing
 passed-same : (i : ℕ) (own : List ℕ) → (first_of own ≡ Some i → ⊥) → is_passed (i + 1) own ≡ is_passed i own
 passed-same i [] other = refl
 passed-same i (x ∷ xs) other = elim (eqb_tells x i) [
-    | inl told ↦ absurd (other (ap Some told.1))
-    | inr told ↦ (let differ = told.1 in grind (arith, nat_tests))
-  ]
+  | inl told ↦ absurd (other (ap Some told.1))
+  | inr told ↦ (let differ = told.1 in grind (arith, nat_tests))
+]
 
 -- a list that begins with the number is passed with the next, and not before
 passed-next : (i : ℕ) (xs : List ℕ) → (is_passed (i + 1) (i ∷ xs) ≡ true) × (is_passed i (i ∷ xs) ≡ false)
@@ -101,17 +96,13 @@ module _ (listed : ℕ → List ℕ) (n : ℕ) (are : AreLists listed n) (F : �
       by : (own : List ℕ) → listed i ≡ own → done_on F own i s now ≡ done_below listed F old (i + 1) s
       by [] is = unheaded (λ first. (let never : None ≡ Some i = sym (ap first_of is) ∙ first in cc))
       by (x ∷ xs) is = elim (eqb_tells x i) [
-          | inl told ↦
-              let headed : listed i ≡ i ∷ xs = is ∙ ap (λ h. h ∷ xs) told.1 in
-              subst (λ h. done_on F (h ∷ xs) i s now ≡ done_below listed F old (i + 1) s) (sym told.1)
-              (ap (λ b. if b then (if contains s (i ∷ xs) then F s now else now) else now) (same-number i)
-              ∙ headed-below i xs s now headed so_far (contains s (i ∷ xs)) refl)
-          | inr told ↦ rw told.0 (unheaded (λ first. told.1 (some_same x i (sym (ap first_of is) ∙ first))))
-        ]
-
-  -- at first all is as it was
-  pub done-none : (s : ℕ) → old s ≡ done_below listed F old 0 s
-  done-none s = sym (ap (λ b. if b then F s (old s) else old s) (passed-none (listed s)))
+        | inl told ↦
+            let headed : listed i ≡ i ∷ xs = is ∙ ap (λ h. h ∷ xs) told.1 in
+            subst (λ h. done_on F (h ∷ xs) i s now ≡ done_below listed F old (i + 1) s) (sym told.1)
+            (ap (λ b. if b then (if contains s (i ∷ xs) then F s now else now) else now) (same-number i)
+            ∙ headed-below i xs s now headed so_far (contains s (i ∷ xs)) refl)
+        | inr told ↦ rw told.0 (unheaded (λ first. told.1 (some_same x i (sym (ap first_of is) ∙ first))))
+      ]
 
   -- once all heads are passed, each symbol of a list has what it shall have
   pub done-all : (i s : ℕ) → n ≤ i → (listed s ≡ [] → F s (old s) ≡ old s) → done_below listed F old i s ≡ F s (old s)

@@ -1,5 +1,5 @@
 -- All symbols of a list point to one.
-use Rattle.std.proofs.Common.{◌≡◌, ◌∙◌, ◌+◌, ◌<◌, ◌∷◌, ℕ, Bool, true, false, List, [], refl, sym, ap, inl, inr, subst, length, get_or, drop, if◌then◌else◌, slice_index, slice_set}
+use Rattle.std.proofs.Common.{◌≡◌, ◌∙◌, ◌+◌, ◌<◌, ◌∷◌, ℕ, Bool, true, false, List, refl, sym, ap, inl, inr, subst, length, get_or, drop, if◌then◌else◌, slice_index, slice_set}
 use Rattle.std.specs.Prelude.{◌==◌, ◌||◌}
 use Rattle.std.proofs.lemmas.List.{at_drop_more, get_or-set_other, get_or-set_same}
 use Rattle.std.proofs.lemmas.Bool.Decides.{eqb_tells}
@@ -8,9 +8,9 @@ use Rattle.link_rules.specs.Places.{contains}
 -- after a write: what was written, or what was there
 pub written : (xs : List ℕ) (e v s : ℕ) → e < length xs → slice_index (slice_set xs e v) s ≡ (if e == s then v else slice_index xs s)
 written xs e v s lt = elim (eqb_tells e s) [
-    | inl told ↦ rw told.0 (subst (λ k. slice_index (slice_set xs e v) k ≡ v) told.1 (get_or-set_same xs e v 0 lt))
-    | inr told ↦ rw told.0 (get_or-set_other xs e s v 0 (λ same. told.1 (sym same)))
-  ]
+  | inl told ↦ rw told.0 (subst (λ k. slice_index (slice_set xs e v) k ≡ v) told.1 (get_or-set_same xs e v 0 lt))
+  | inr told ↦ rw told.0 (get_or-set_other xs e s v 0 (λ same. told.1 (sym same)))
+]
 
 -- what is pointed before and behind
 both-pointed : (a b : Bool) (v old : ℕ) → (if b then v else (if a then v else old)) ≡ (if a || b then v else old)

@@ -1,5 +1,5 @@
 -- Lists of rivals are settled one after another.
-use Rattle.std.proofs.Common.{◌≡◌, ◌∙◌, ◌+◌, ◌-◌, ◌<◌, ◌≤◌, ◌&&◌, ℕ, suc, Bool, true, false, List, [], ◌∷◌, ◌++◌, All, Contains, Option, Some, None, refl, sym, ap, subst, inl, inr, arith, length, map, if◌then◌else◌, slice_index, filter_map}
+use Rattle.std.proofs.Common.{◌≡◌, ◌∙◌, ◌+◌, ◌-◌, ◌<◌, ◌≤◌, ◌&&◌, ℕ, suc, Bool, true, false, List, [], ◌∷◌, ◌++◌, All, Contains, Option, Some, None, refl, sym, ap, subst, inl, inr, arith, map, if◌then◌else◌, slice_index, filter_map}
 use Rattle.std.specs.Prelude.{◌==◌, option_map, option_to_list}
 use Rattle.std.specs.List.{cons_option, range_with_len}
 use Rattle.std.proofs.lemmas.List.{append-nil, append_assoc}
@@ -10,8 +10,7 @@ use Rattle.link_rules.specs.Rivals.{clash, settled_entry, stand_in}
 use Rattle.link_rules.specs.Selection.{Selection, is_dynamic}
 use Rattle.link_rivals.specs.declared.settling.Clash.{Clash}
 use Rattle.link_rivals.specs.Lists.{AreLists}
-use Rattle.link_rivals.specs.Settled.{clash_at, clash_of, settled_among, settled_at, settled_on}
-use Rattle.link_rivals.proofs.Heads.{same-number}
+use Rattle.link_rivals.specs.Settled.{clash_at, clash_of, settled_at, settled_on}
 use Rattle.link_rivals.proofs.Passes.{contained, done_below, done_on, done-all, done-more, list-shared, undone}
 
 -- what entries stand for by tables that agree on them
@@ -42,12 +41,12 @@ module _ (l : Selection) (listed : ℕ → List ℕ) (n : ℕ) (are : AreLists l
         by : (own : List ℕ) → listed i ≡ own → clash_at l own table i ≡ clash_at l own old i
         by [] is = refl
         by (x ∷ xs) is = elim (eqb_tells x i) [
-            | inl told ↦
-                let headed : listed i ≡ i ∷ xs = is ∙ ap (λ h. h ∷ xs) told.1 in
-                subst (λ h. clash_at l (h ∷ xs) table i ≡ clash_at l (h ∷ xs) old i) (sym told.1)
-                (ap (λ entries. if i == i && are_several (i ∷ xs) then option_map (clash_of i) (clash l entries) else None) (entries-same xs headed))
-            | inr told ↦ rw told.0 refl
-          ]
+          | inl told ↦
+              let headed : listed i ≡ i ∷ xs = is ∙ ap (λ h. h ∷ xs) told.1 in
+              subst (λ h. clash_at l (h ∷ xs) table i ≡ clash_at l (h ∷ xs) old i) (sym told.1)
+              (ap (λ entries. if i == i && are_several (i ∷ xs) then option_map (clash_of i) (clash l entries) else None) (entries-same xs headed))
+          | inr told ↦ rw told.0 refl
+        ]
 
     -- a list that is settled by the table is settled by the table as it was
     settled-same : (s : ℕ) → settled_on l (listed i) table i s ≡ done_on (settled_at l listed old) (listed i) i s (slice_index table s)
@@ -65,12 +64,12 @@ module _ (l : Selection) (listed : ℕ → List ℕ) (n : ℕ) (are : AreLists l
         by : (own : List ℕ) → listed i ≡ own → settled_on l own table i s ≡ done_on (settled_at l listed old) own i s (slice_index table s)
         by [] is = refl
         by (x ∷ xs) is = elim (eqb_tells x i) [
-            | inl told ↦
-                let headed : listed i ≡ i ∷ xs = is ∙ ap (λ h. h ∷ xs) told.1 in
-                subst (λ h. settled_on l (h ∷ xs) table i s ≡ done_on (settled_at l listed old) (h ∷ xs) i s (slice_index table s)) (sym told.1)
-                (ap (λ entry. if i == i then entry else slice_index table s) (among xs headed (contains s (i ∷ xs)) refl))
-            | inr told ↦ rw told.0 refl
-          ]
+          | inl told ↦
+              let headed : listed i ≡ i ∷ xs = is ∙ ap (λ h. h ∷ xs) told.1 in
+              subst (λ h. settled_on l (h ∷ xs) table i s ≡ done_on (settled_at l listed old) (h ∷ xs) i s (slice_index table s)) (sym told.1)
+              (ap (λ entry. if i == i then entry else slice_index table s) (among xs headed (contains s (i ∷ xs)) refl))
+          | inr told ↦ rw told.0 refl
+        ]
 
     -- one head more
     pub settled-more : (s : ℕ) → settled_on l (listed i) table i s ≡ settled_below l listed old (i + 1) s
@@ -98,6 +97,7 @@ clashes-more f told next i n one lt is more =
   where
     rest : List Clash
     rest = filter_map f (range_with_len (i + 1) (n - (i + 1)))
+
     by : (o : Option Clash) → told ++ option_to_list o ++ rest ≡ told ++ cons_option o rest
     by None = ap (λ cs. cs ++ rest) (append-nil told)
     by (Some c) = append_assoc told (c ∷ []) rest

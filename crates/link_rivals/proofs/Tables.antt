@@ -1,5 +1,5 @@
 -- Settling plain names and then names with versions gives the tables of a link, and its lines of duplicates.
-use Rattle.std.proofs.Common.{◌≡◌, ◌∙◌, ◌+◌, ◌<◌, ◌&&◌, ℕ, zero, suc, Bool, true, false, List, [], ◌∷◌, All, Contains, Option, Some, None, refl, sym, ap, subst, arith, length, map, if◌then◌else◌, slice_get, slice_index, filter_map}
+use Rattle.std.proofs.Common.{◌≡◌, ◌∙◌, ◌+◌, ◌&&◌, ℕ, suc, Bool, true, false, List, [], ◌∷◌, All, Contains, Option, Some, None, refl, sym, ap, arith, length, map, if◌then◌else◌, slice_get, slice_index, filter_map}
 use Rattle.std.specs.Prelude.{cond, option_map, unwrap_or}
 use Rattle.std.specs.List.{cons_option, enumerate_from, range_with_len}
 use Rattle.std.specs.Option.{option_map_or}
@@ -15,10 +15,9 @@ use Rattle.link_rules.specs.Places.{Bytes, are_several, each_from, first_of, is_
 use Rattle.link_rules.specs.Refusals.{duplicate_line, line_at_head, plain_duplicates, versioned_duplicates}
 use Rattle.link_rules.specs.Rivals.{clash, is_forced, plain_entry, plain_list, plain_table, reference_entry, reference_table, settled_entry, stand_in, versioned_list, versioned_table}
 use Rattle.link_rules.specs.Selection.{Selection, is_dynamic, target_of}
-use Rattle.link_rules.specs.World.{Stage, is_definition}
-use Rattle.link_rivals.specs.declared.settling.Clash.{Clash}
+use Rattle.link_rules.specs.World.{is_definition}
 use Rattle.link_rivals.specs.Lists.{plain_lists, versioned_lists}
-use Rattle.link_rivals.specs.Settled.{clash_at, clash_line, clash_of, clashes, name_at, settled_at, settled_table}
+use Rattle.link_rivals.specs.Settled.{clash_at, clash_line, clash_of, clashes, settled_at, settled_table}
 
 -- a symbol that is listed is not a forced name
 not-forced : (name : Bytes) (origin : Origin) → is_named name origin ≡ true → is_forced origin ≡ false

@@ -1,5 +1,5 @@
 -- What is known of symbols by their ids, and that it is what a selection says of them.
-use Rattle.std.specs.Prelude.{◌≡◌, ◌&&◌, ℕ, List, Bool, map, filter, not}
+use Rattle.std.specs.Prelude.{◌≡◌, ℕ, List, map, filter}
 use Rattle.link_flags.specs.Pick.{is_strong}
 use Rattle.link_input.specs.Symbols.{is_shared}
 use Rattle.link_rules.specs.Rivals.{is_in_loaded_regular, static_entries}

@@ -109,7 +109,12 @@ fn settle_list(
             second,
         })),
         None => {
-            point_to(table, head, later, survivors.choice(entries.as_slice(), head));
+            point_to(
+                table,
+                head,
+                later,
+                survivors.choice(entries.as_slice(), head),
+            );
             Ok(None)
         }
     }
@@ -134,11 +139,7 @@ fn fill_entries(
     entries.clear();
     entries.push(stand_in(survivors, table, head))?;
     for symbol in later {
-        entries.push(stand_in(
-            survivors,
-            table,
-            SymbolId::from_usize(*symbol as usize),
-        ))?;
+        entries.push(stand_in(survivors, table, SymbolId::from_usize(*symbol as usize)))?;
     }
     Ok(())
 }

@@ -32,7 +32,7 @@ impl<'a> Survivors<'a> {
     ghost use Rattle.link_rivals.specs.Survivors.{Tells, strong_entries};
 
     /// A shared file gives the symbol.
-    pub fn is_dynamic(&self, id: SymbolId) -> bool
+    pub(crate) fn is_dynamic(&self, id: SymbolId) -> bool
         requires { id < length self.now.strengths.now }
         ensures { (l : Selection) → Tells self.now l → result ≡ is_dynamic l id }
     {

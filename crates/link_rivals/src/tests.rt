@@ -1,13 +1,14 @@
 //! That the definition that counts is the one that a plain model names, for all lists of two and three; that lists are settled and narrowed.
 
-ghost use Rattle.std.specs.Prelude.{◌≡◌, ◌<◌, ◌≤◌, length};
+ghost use Rattle.std.specs.Prelude.{◌≡◌, ◌<◌, ◌≤◌, All, IfOk, length};
 ghost use Rattle.link_flags.specs.FlagWords.{words_of};
 
 use crate::{RivalLists, Survivors, narrow, settle};
 use bitflags::Flags;
 use link_flags::SymbolStrength::{Common, GnuUnique, Strong, Undefined, Weak};
 use link_flags::{PerSymbolFlags, SymbolStrength, ValueFlags, Visibility};
-use link_ids::SymbolId;
+use link_ids::{SymbolId, SymbolIdRange};
+use std::alloc::{AllocError, Global};
 use std::process::Abort;
 use std::test::Fail;
 
@@ -128,4 +129,107 @@ fn the_definition_that_counts_is_that_of_the_model(rt: HostRuntime) {
             }
         }
     }
+}
+
+/// Two lists of six symbols: 0, 2 and 3; 1 and 4. The last symbol stands in none.
+struct TwoLists;
+
+impl RivalLists for TwoLists {
+    ghost use Rattle.std.specs.Prelude.{[], ◌∷◌, slice_get};
+    ghost use Rattle.std.specs.Option.{option_map_or};
+
+    ghost listed = { λ _ s. option_map_or (λ own. own)
+        (slice_get ((0 ∷ 2 ∷ 3 ∷ []) ∷ (1 ∷ 4 ∷ []) ∷ (0 ∷ 2 ∷ 3 ∷ []) ∷ (0 ∷ 2 ∷ 3 ∷ []) ∷ (1 ∷ 4 ∷ []) ∷ []) s) [] };
+
+    ghost count = { λ _. 6 };
+
+    fn later(&self, id: SymbolId) -> &[u32] {
+        match id.as_usize() {
+            0 => &[2, 3],
+            1 => &[4],
+            _ => &[],
+        }
+    }
+}
+
+/// Each symbol points to itself, but for the fourth, which points to the last.
+fn table() -> [SymbolId; 6]
+    ensures len { length result ≡ 6 }
+    ensures inside { All (λ t. t < 6) result }
+{
+    [
+        SymbolId::from_usize(0),
+        SymbolId::from_usize(1),
+        SymbolId::from_usize(2),
+        SymbolId::from_usize(5),
+        SymbolId::from_usize(4),
+        SymbolId::from_usize(5),
+    ]
+}
+
+#[test]
+fn lists_are_settled(rt: HostRuntime) -> Result<(), Fail> {
+    let mut table = table();
+    let survivors = Survivors {
+        strengths: &[Weak, Strong, Undefined, Weak, Strong, Strong],
+        dynamic: &[true, false, false, false, false, false],
+        held: &[true, true, true, true, true, true],
+        weak_overrides_common: false,
+        allow_multiple: false,
+    };
+    let clashes = settle(rt.alloc(), &survivors, &TwoLists, &mut table)?;
+    assert!(rt;
+        table[0].as_usize() == 5
+            && table[1].as_usize() == 1
+            && table[2].as_usize() == 5
+            && table[3].as_usize() == 5
+            && table[4].as_usize() == 4
+            && clashes.len() == 1,
+        "at {table:?} with {clashes:?}"
+    );
+    Ok(())
+}
+
+/// No flags for each of the six symbols.
+fn no_flags(alloc: Global) -> Result<PerSymbolFlags, AllocError>
+    ensures { IfOk result (λ flags. length (words_of flags) ≡ 6) }
+{
+    let mut flags = PerSymbolFlags::new(alloc);
+    for _ in 0..6usize {
+        flags.push(ValueFlags::empty())?;
+    }
+    Ok(flags)
+}
+
+/// Narrows the two lists.
+fn narrow_two_lists(flags: &mut PerSymbolFlags)
+    requires { length (words_of flags.old) ≡ 6 }
+    ensures { length (words_of flags.new) ≡ 6 }
+{
+    let visibilities = [
+        Visibility::Default,
+        Visibility::Protected,
+        Visibility::Hidden,
+        Visibility::Default,
+        Visibility::Default,
+        Visibility::Hidden,
+    ];
+    let dynamic = [false, false, true, false, false, false];
+    narrow(&TwoLists, &visibilities, &dynamic, flags);
+}
+
+#[test]
+fn lists_are_narrowed(rt: HostRuntime) -> Result<(), Fail> {
+    let mut flags = no_flags(rt.alloc())?;
+    narrow_two_lists(&mut flags);
+    let hidden = ValueFlags::NON_INTERPOSABLE
+        .union(ValueFlags::DOWNGRADE_TO_LOCAL)
+        .raw();
+    let protected = ValueFlags::NON_INTERPOSABLE.raw();
+    let none = ValueFlags::empty().raw();
+    assert_eq!(rt;
+        flags.raw_range(SymbolIdRange::prelude(6)),
+        [hidden, protected, none, hidden, protected, none].as_slice()
+    );
+    Ok(())
 }

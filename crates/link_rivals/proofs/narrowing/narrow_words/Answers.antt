@@ -17,6 +17,6 @@ pub returns : goal.returns
 returns g c = λ w seen.
     let kept : length c.loop-number.words ≡ length c.args.dynamic.now = omega arith in
     let same : length (numbers_of c.loop-number.words) ≡ length w.symbols =
-        length-map c.loop-number.words (λ (r : RawFlags). r.0) ∙ kept ∙ ap length seen.dynamic ∙ length-map w.symbols (λ (x : Symbol). is_shared x.origin) in
+    length-map c.loop-number.words (λ (r : RawFlags). r.0) ∙ kept ∙ ap length seen.dynamic ∙ length-map w.symbols (λ (x : Symbol). is_shared x.origin) in
     narrowed-all w (g.L.RivalLists.listed c.args.lists.now) (length c.args.dynamic.now) c.requires.lists (numbers_of c.args.words.now) c.loop-number.number
     (numbers_of c.loop-number.words) (omega arith) same (c.loop-number.invariant w seen)

@@ -1,6 +1,5 @@
 use Rattle.std.proofs.Common.{◌∙◌, ap, map, drop, ◌+◌}
 use Rattle.std.specs.Prelude.{fold}
-use Rattle.link_flags.specs.declared.visibility.Visibility.TheVariants.{Default}
 use Rattle.link_flags.specs.Strictness as visibility
 use Rattle.link_rules.specs.Visibility.{visibility_of}
 use Rattle.link_rivals.proofs.Joining.{next-strictest}

@@ -1,4 +1,4 @@
-use Rattle.std.proofs.Common.{◌++◌, ◌∙◌, ap, arith, length, slice_index, sym, zero-add}
+use Rattle.std.proofs.Common.{◌++◌, ◌∙◌, ap, arith, length, sym, zero-add}
 use Rattle.std.specs.Prelude.{option_to_list}
 use Rattle.std.proofs.lemmas.List.{append-nil}
 use Rattle.link_rivals.specs.Settled.{clash_at, settled_at, settled_on}
@@ -6,9 +6,6 @@ use Rattle.link_rivals.proofs.Passes.{list-is, number-at}
 use Rattle.link_rivals.proofs.SettlePass.{clash-same, clashes-more, settled-all, settled-more}
 use Rattle.link_rivals.proofs.settling.settle.Goals as goal
 use Rattle.link_rivals.proofs.settling.settle.Goals.{in-Some+in_ok-push, in_default}
-
-pub settle_head-requires-clause-inside : goal.settle_head-requires-clause-inside
-settle_head-requires-clause-inside g c = c.loop-number.invariant.inside
 
 pub loop-number-preserved : goal.loop-number-preserved
 loop-number-preserved g c =
@@ -24,14 +21,14 @@ loop-number-preserved g c =
           ∙ settled-more selection listed (length old) c.requires.lists old i table (so_far.table selection tells) s;
       clashes = λ selection tells.
           let told = c.in_ok-told.ensures.clash selection tells ∙ ap (λ h. clash_at selection (listed h) table h) c.from_usize-head.ensures
-              ∙ clash-same selection listed (length old) c.requires.lists old i table (so_far.table selection tells) in
+          ∙ clash-same selection listed (length old) c.requires.lists old i table (so_far.table selection tells) in
           clashes-more (λ s. clash_at selection (listed s) old s) c.loop-number.clashes.items _ i (length old) c.in_ok-told.told (omega arith) told
           (elim c.match-told.branch [
-          | in-Some+in_ok-push w ↦
-              ap (λ v. v.items) w.clashes-is ∙ w.in_ok-push.ensures.items ∙ sym (ap (λ o. c.loop-number.clashes.items ++ option_to_list o) w.in-Some.is)
-          | in_default w ↦
-              ap (λ v. v.items) w.clashes-is
-              ∙ sym (ap (λ o. c.loop-number.clashes.items ++ option_to_list o) w.in_default.is ∙ append-nil c.loop-number.clashes.items)
+            | in-Some+in_ok-push w ↦
+                ap (λ v. v.items) w.clashes-is ∙ w.in_ok-push.ensures.items ∙ sym (ap (λ o. c.loop-number.clashes.items ++ option_to_list o) w.in-Some.is)
+            | in_default w ↦
+                ap (λ v. v.items) w.clashes-is
+                ∙ sym (ap (λ o. c.loop-number.clashes.items ++ option_to_list o) w.in_default.is ∙ append-nil c.loop-number.clashes.items)
           ])
           ∙ so_far.clashes selection tells;
     }

@@ -1,4 +1,4 @@
-use Rattle.std.proofs.Common.{◌≡◌, ◌+◌, ◌∙◌, ap, drop, false, length, refl, sym, true}
+use Rattle.std.proofs.Common.{◌+◌, ◌∙◌, ap, drop, false, length, sym, true}
 use Rattle.std.specs.Prelude.{fold}
 use Rattle.link_flags.specs.Selector.{after}
 use Rattle.link_rules.specs.Rivals.{static_candidates}
@@ -14,7 +14,7 @@ loop-entry-preserved c =
     let x = c.entry-item.result in
     let (candidates, is, all) = c.loop-entry.invariant.inside in
     elim c.if-not-is_dynamic.branch [
-    | then-not-is_dynamic w ↦ record {
+      | then-not-is_dynamic w ↦ record {
         value = λ selection tells.
             ap (λ k. fold after k (static_candidates selection (drop (i + 1) entries)))
             (w.selector-is ∙ w.consider.ensures ∙ ap (λ strength. after known (x, strength)) (w.strength.ensures selection tells))
@@ -23,7 +23,7 @@ loop-entry-preserved c =
         inside = candidate-more (length c.args.self.now.strengths.now) candidates known _ x w.strength.result is all
             (entry-inside _ entries i x c.requires c.loop-entry-test.true c.entry-item.is) (w.selector-is ∙ w.consider.ensures);
       }
-    | else-not-is_dynamic w ↦ record {
+      | else-not-is_dynamic w ↦ record {
         value = λ selection tells.
             ap (λ k. fold after k (static_candidates selection (drop (i + 1) entries))) w.selector-is
             ∙ sym (candidates-step selection known entries i x true c.loop-entry-test.true c.entry-item.is (sym w.if-not-is_dynamic.false ∙ c.is_dynamic.ensures selection tells))

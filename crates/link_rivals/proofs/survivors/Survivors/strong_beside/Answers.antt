@@ -10,8 +10,8 @@ loop-entry-preserved c = λ selection tells.
     let first = c.args.first in
     let step = strong-step selection (λ s. not (s == first)) c.args.entries.now c.loop-entry.entry-index x c.loop-entry-test.true c.entry-item.is in
     elim c.else-is_strong.branch [
-    | else-is_strong-via-then-is_strong+else-ne w ↦
-        sym (step (none-by-second (is_rival selection x) (not (x == first)) (sym w.ne.ensures ∙ w.if-ne.false))) ∙ c.loop-entry.invariant selection tells
-    | else-is_strong-via-else-is_strong w ↦
-        sym (step (none-by-first (is_rival selection x) (not (x == first)) (sym (c.is_strong.ensures selection tells) ∙ w.if-is_strong.false))) ∙ c.loop-entry.invariant selection tells
+      | else-is_strong-via-then-is_strong+else-ne w ↦
+          sym (step (none-by-second (is_rival selection x) (not (x == first)) (sym w.ne.ensures ∙ w.if-ne.false))) ∙ c.loop-entry.invariant selection tells
+      | else-is_strong-via-else-is_strong w ↦
+          sym (step (none-by-first (is_rival selection x) (not (x == first)) (sym (c.is_strong.ensures selection tells) ∙ w.if-is_strong.false))) ∙ c.loop-entry.invariant selection tells
     ]
