@@ -1,4 +1,0 @@
-pub mod Listed
-pub mod Edges
-pub mod Below
-pub mod GroupObjects

@@ -1,4 +1,0 @@
-pub mod Sources
-pub mod Targets
-pub mod Requests
-pub mod Objects
