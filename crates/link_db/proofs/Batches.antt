@@ -23,7 +23,7 @@ use Rattle.link_mapping.specs.Batches.{symbols_behind}
 use Rattle.link_reading.specs.Files.{AllCanBeRead, file_flags}
 use Rattle.link_reading.proofs.Parts.{all_can_be_read}
 use Rattle.link_reading.proofs.Runs.{all-flags}
-use Rattle.link_db.specs.RustForm.{numbers_of}
+use Rattle.link_flags.specs.FlagWords.{numbers_of}
 use Rattle.link_db.proofs.GroupCounts.{asked-count}
 
 -- of groups that can be asked the last ones can

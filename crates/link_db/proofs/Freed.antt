@@ -3,12 +3,13 @@ use Rattle.std.proofs.Common.{◌≡◌, ◌+◌, ◌-◌, ◌<◌, ◌||◌, �
 use Rattle.std.specs.Prelude.{slice_index_or}
 use Rattle.std.specs.Int.Bits.{and_self}
 use Rattle.std.proofs.lemmas.Nat.{and_assoc}
+use Rattle.link_flags.specs.FlagWords.{numbers_of}
 use Rattle.link_flags.specs.FlagBits as flag
 use Rattle.link_flags.specs.declared.value_flags.RawFlags.{RawFlags}
 use Rattle.link_rules.specs.Flags.{all_flags, without_flag}
 use Rattle.link_rules.specs.Places.{contains, each_from}
 use Rattle.link_rules.specs.Visibility.{closed_if_local, rust_flags}
-use Rattle.link_db.specs.RustForm.{freed, numbers_of}
+use Rattle.link_db.specs.RustForm.{freed}
 
 -- no symbol behind the freed one changes
 pub freed-behind : (s n : ℕ) (xs : List ℕ) → s < n → each_from (freed (s ∷ [])) n xs ≡ xs

@@ -16,7 +16,7 @@ use Rattle.link_rules.specs.Refusals.{first_cause, linker_script_cause, too_many
 use Rattle.link_rules.specs.World.{Stage}
 use Rattle.link_files.specs.GroupFiles.{symbols_in}
 use Rattle.link_db.specs.Database.{Database, HasTable, symbol_names}
-use Rattle.link_db.specs.RustForm.{numbers_of}
+use Rattle.link_flags.specs.FlagWords.{numbers_of}
 
 -- a refusal of groups, as that of a link
 abbrev pub error_of : GroupsError → LinkError

@@ -1,13 +1,8 @@
 -- Flags that a version script of the Rust form changes.
-use Rattle.std.specs.Prelude.{ℕ, List, map, if◌then◌else◌}
+use Rattle.std.specs.Prelude.{ℕ, List, if◌then◌else◌}
 use Rattle.link_flags.specs.FlagBits as flag
-use Rattle.link_flags.specs.declared.value_flags.RawFlags.{RawFlags}
 use Rattle.link_rules.specs.Flags.{without_flag}
 use Rattle.link_rules.specs.Places.{contains}
-
--- the flags that words keep
-abbrev pub numbers_of : List RawFlags → List ℕ
-numbers_of words = map (λ w. w.0) words
 
 -- a listed symbol is not local
 abbrev pub freed : List ℕ → ℕ → ℕ → ℕ

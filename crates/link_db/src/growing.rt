@@ -2,9 +2,8 @@
 
 ghost use Rattle.std.specs.Prelude.{◌≡◌, ◌-◌, ◌<◌, ◌≤◌, ◌^◌, ◌++◌, IfOk, OnOk, length, map};
 ghost use Rattle.std.specs.List.{range_with_len};
-ghost use Rattle.link_flags.specs.FlagWords.{words_of};
+ghost use Rattle.link_flags.specs.FlagWords.{numbers_of, words_of};
 ghost use Rattle.link_db.specs.Adding.{flags_in};
-ghost use Rattle.link_db.specs.RustForm.{numbers_of};
 
 use link_flags::{PerSymbolFlags, RawFlags, ValueFlags};
 use link_ids::{SymbolId, SymbolIdRange};

@@ -2,11 +2,11 @@
 
 ghost use Rattle.std.specs.Prelude.{◌≡◌, ◌<◌, [], ◌∷◌, length, map};
 ghost use Rattle.link_flags.specs.FlagBits as flag;
-ghost use Rattle.link_flags.specs.FlagWords.{words_of};
+ghost use Rattle.link_flags.specs.FlagWords.{numbers_of, words_of};
 ghost use Rattle.link_rules.specs.Flags.{flags_if, without_flag};
 ghost use Rattle.link_rules.specs.Places.{each_from};
 ghost use Rattle.link_rules.specs.Visibility.{closed_if_local};
-ghost use Rattle.link_db.specs.RustForm.{freed, numbers_of};
+ghost use Rattle.link_db.specs.RustForm.{freed};
 
 use bitflags::Flags;
 use link_flags::{PerSymbolFlags, RawFlags, ValueFlags};

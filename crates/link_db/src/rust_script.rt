@@ -8,12 +8,12 @@ use link_names::Name;
 
 impl<P: Platform> SymbolDb<P> {
     ghost use Rattle.std.specs.Prelude.{◌≡◌, length};
-    ghost use Rattle.link_flags.specs.FlagWords.{words_of};
+    ghost use Rattle.link_flags.specs.FlagWords.{numbers_of, words_of};
     ghost use Rattle.link_loader.specs.Holds.{AreRulesOf, platform_of};
     ghost use Rattle.link_rules.specs.Places.{Bytes, each_from};
     ghost use Rattle.link_rules.specs.Rules.{Rules};
     ghost use Rattle.link_db.specs.Database.{HasTable, symbol_names};
-    ghost use Rattle.link_db.specs.RustForm.{freed, numbers_of};
+    ghost use Rattle.link_db.specs.RustForm.{freed};
     ghost use Rattle.link_db.specs.RustScript.{flags_by_script, freed_by, freed_symbols};
     ghost use Rattle.link_db.specs.Seen.{seen};
 

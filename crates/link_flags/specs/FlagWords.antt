@@ -1,5 +1,5 @@
 -- Words of flags, one for each symbol.
-use Rattle.std.specs.Prelude.{ℕ, List, slice_index_or, slice_set}
+use Rattle.std.specs.Prelude.{ℕ, List, map, slice_index_or, slice_set}
 use Rattle.std.specs.Int.RustNames.{bit_or}
 use Rattle.std.specs.Borrow.{Lends, MutBor, Fml, Array}
 use Rattle.std.specs.Vec.{vec_capacity, with_items}
@@ -11,6 +11,10 @@ use Rattle.link_flags.specs.contracts.value_flags.RawFlags as word_row
 -- the words, in the order of the symbols
 abbrev pub words_of : PerSymbolFlags → List RawFlags
 words_of f = f.words.items
+
+-- the flags that words keep, as numbers
+abbrev pub numbers_of : List RawFlags → List ℕ
+numbers_of words = map (λ w. w.0) words
 
 -- how many words there is room for
 abbrev pub room_of : PerSymbolFlags → ℕ

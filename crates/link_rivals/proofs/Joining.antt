@@ -6,6 +6,7 @@ use Rattle.std.specs.Int.Bits.{or_self, or_zero_r}
 use Rattle.std.proofs.lemmas.Bool.Decides.{eqb_tells}
 use Rattle.std.proofs.lemmas.List.{at_drop_more, get_or-map, length-map, map-set}
 use Rattle.link_closure.proofs.Joins.{or_assoc}
+use Rattle.link_flags.specs.FlagWords.{numbers_of}
 use Rattle.link_flags.specs.declared.value_flags.RawFlags.{RawFlags}
 use Rattle.link_flags.specs.declared.visibility.Visibility.{Visibility}
 use Rattle.link_flags.specs.declared.visibility.Visibility.TheVariants.{Default}
@@ -15,7 +16,7 @@ use Rattle.link_rules.specs.Flags.{flags_if}
 use Rattle.link_rules.specs.Places.{contains}
 use Rattle.link_rules.specs.Visibility.{visibility_of}
 use Rattle.link_rules.specs.World.{Stage}
-use Rattle.link_rivals.specs.Narrowed.{joined_unless, numbers_of}
+use Rattle.link_rivals.specs.Narrowed.{joined_unless}
 use Rattle.link_rivals.proofs.Pointing.{written}
 
 -- a symbol that is not dynamic gets the bits

@@ -2,7 +2,6 @@
 use Rattle.std.specs.Prelude.{◌≡◌, ℕ, List, Bool, not, true, map, if◌then◌else◌, slice_get, slice_index, slice_index_or}
 use Rattle.std.specs.Option.{option_map_or}
 use Rattle.std.specs.Int.RustNames.{bit_or}
-use Rattle.link_flags.specs.declared.value_flags.RawFlags.{RawFlags}
 use Rattle.link_flags.specs.declared.visibility.Visibility.{Visibility}
 use Rattle.link_input.specs.Symbols.{Symbol, is_shared, visibility_in}
 use Rattle.link_rules.specs.Flags.{flags_if}
@@ -14,10 +13,6 @@ use Rattle.link_rules.specs.World.{Stage}
 pub record AreSeen (seen : List Visibility) (shared : List Bool) (w : Stage) : Type 0 where
   pub visibilities : seen ≡ map (λ x. visibility_in x.origin) w.symbols
   pub dynamic : shared ≡ map (λ x. is_shared x.origin) w.symbols
-
--- the bits that words keep
-abbrev pub numbers_of : List RawFlags → List ℕ
-numbers_of words = map (λ w. w.0) words
 
 -- flags with these bits, unless the symbol is dynamic
 abbrev pub joined_unless : List Bool → ℕ → ℕ → ℕ → ℕ

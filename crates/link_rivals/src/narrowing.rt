@@ -1,14 +1,14 @@
 //! The strictest visibility of a list of rivals counts for each of its symbols.
 
 ghost use Rattle.std.specs.Prelude.{◌≡◌, ◌<◌, ◌≤◌, ◌^◌, ◌∷◌, ℕ, ◌==◌, All, false, if◌then◌else◌, length, map, slice_index};
-ghost use Rattle.link_flags.specs.FlagWords.{words_of};
+ghost use Rattle.link_flags.specs.FlagWords.{numbers_of, words_of};
 ghost use Rattle.link_input.specs.Symbols.{visibility_in};
 ghost use Rattle.link_rules.specs.Marking.{visibility_flags};
 ghost use Rattle.link_rules.specs.Places.{contains};
 ghost use Rattle.link_rules.specs.Visibility.{strictest};
 ghost use Rattle.link_rules.specs.World.{Stage};
 ghost use Rattle.link_rivals.specs.Lists.{AreLists};
-ghost use Rattle.link_rivals.specs.Narrowed.{AreSeen, joined_unless, narrowed, narrowed_on, numbers_of};
+ghost use Rattle.link_rivals.specs.Narrowed.{AreSeen, joined_unless, narrowed, narrowed_on};
 
 use crate::lists::RivalLists;
 use bitflags::Flags;

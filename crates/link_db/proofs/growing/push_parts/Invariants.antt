@@ -1,7 +1,6 @@
 use Rattle.std.proofs.Common.{◌≡◌, ◌++◌, drop}
-use Rattle.link_flags.specs.FlagWords.{words_of}
+use Rattle.link_flags.specs.FlagWords.{numbers_of, words_of}
 use Rattle.link_db.specs.Adding.{flags_in}
-use Rattle.link_db.specs.RustForm.{numbers_of}
 use Rattle.link_db.proofs.growing.push_parts.Given as goal
 
 abbrev pub invariant-loop-part : goal.invariant-loop-part

@@ -1,6 +1,5 @@
 use Rattle.std.proofs.Common.{◌≡◌, ◌++◌, drop}
-use Rattle.link_flags.specs.FlagWords.{words_of}
-use Rattle.link_db.specs.RustForm.{numbers_of}
+use Rattle.link_flags.specs.FlagWords.{numbers_of, words_of}
 use Rattle.link_db.proofs.growing.push_words.Given as goal
 
 abbrev pub invariant-loop-word : goal.invariant-loop-word

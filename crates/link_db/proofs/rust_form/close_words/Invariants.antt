@@ -1,6 +1,6 @@
 use Rattle.std.proofs.Common.{◌≡◌, ◌++◌, map, take, drop}
 use Rattle.link_rules.specs.Visibility.{closed_if_local}
-use Rattle.link_db.specs.RustForm.{numbers_of}
+use Rattle.link_flags.specs.FlagWords.{numbers_of}
 use Rattle.link_db.proofs.rust_form.close_words.Given as goal
 
 abbrev pub invariant-loop-word : goal.invariant-loop-word

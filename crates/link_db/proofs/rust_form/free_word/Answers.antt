@@ -1,6 +1,7 @@
 use Rattle.std.proofs.Common.{◌≡◌, ◌+◌, ◌∷◌, [], subst, arith, slice_set}
+use Rattle.link_flags.specs.FlagWords.{numbers_of}
 use Rattle.link_rules.specs.Places.{each_from}
-use Rattle.link_db.specs.RustForm.{freed, numbers_of}
+use Rattle.link_db.specs.RustForm.{freed}
 use Rattle.link_db.proofs.Freed.{freed-one}
 use Rattle.link_db.proofs.rust_form.free_word.Goals as goal
 

@@ -1,5 +1,5 @@
 use Rattle.std.proofs.Common.{◌∙◌}
-use Rattle.link_rivals.specs.Narrowed.{numbers_of}
+use Rattle.link_flags.specs.FlagWords.{numbers_of}
 use Rattle.link_rivals.proofs.Joining.{head-joined, next-joined}
 use Rattle.link_rivals.proofs.narrowing.join_flags.Goals as goal
 

@@ -1,6 +1,7 @@
 use Rattle.std.proofs.Common.{◌≡◌, ◌∷◌, ℕ, drop, if◌then◌else◌, slice_index}
+use Rattle.link_flags.specs.FlagWords.{numbers_of}
 use Rattle.link_rules.specs.Places.{contains}
-use Rattle.link_rivals.specs.Narrowed.{joined_unless, numbers_of}
+use Rattle.link_rivals.specs.Narrowed.{joined_unless}
 use Rattle.link_rivals.proofs.narrowing.join_flags.Given as goal
 
 abbrev pub invariant-loop-symbol : goal.invariant-loop-symbol

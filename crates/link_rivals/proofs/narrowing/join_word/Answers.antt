@@ -1,6 +1,6 @@
 use Rattle.std.proofs.Common.{◌∙◌, ap, arith, bit_or, false, true}
 use Rattle.std.proofs.lemmas.List.{get_or_default}
-use Rattle.link_rivals.specs.Narrowed.{numbers_of}
+use Rattle.link_flags.specs.FlagWords.{numbers_of}
 use Rattle.link_rivals.proofs.Joining.{joined-none, joined-word}
 use Rattle.link_rivals.proofs.narrowing.join_word.Goals as goal
 

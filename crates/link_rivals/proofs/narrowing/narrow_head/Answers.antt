@@ -1,7 +1,7 @@
 use Rattle.std.proofs.Common.{◌≡◌, ◌<◌, ◌∙◌, All, ap, arith, false, length, slice_index, subst, sym}
 use Rattle.std.proofs.lemmas.Bool.Decides.{nat_tests}
 use Rattle.link_rules.specs.Marking.{visibility_flags}
-use Rattle.link_rivals.specs.Narrowed.{numbers_of}
+use Rattle.link_flags.specs.FlagWords.{numbers_of}
 use Rattle.link_rivals.proofs.Heads.{later-inside, list-of-head, list-of-one}
 use Rattle.link_rivals.proofs.NarrowPass.{head-narrowed, one-narrowed}
 use Rattle.link_rivals.proofs.narrowing.narrow_head.Goals as goal

@@ -1,8 +1,9 @@
 use Rattle.std.proofs.Common.{◌≡◌, ◌∙◌, ap, arith, length, slice_index}
 use Rattle.std.proofs.lemmas.List.{length-map}
+use Rattle.link_flags.specs.FlagWords.{numbers_of}
 use Rattle.link_flags.specs.declared.value_flags.RawFlags.{RawFlags}
 use Rattle.link_input.specs.Symbols.{Symbol, is_shared}
-use Rattle.link_rivals.specs.Narrowed.{narrowed_on, numbers_of}
+use Rattle.link_rivals.specs.Narrowed.{narrowed_on}
 use Rattle.link_rivals.proofs.NarrowPass.{narrowed-all, narrowed-more}
 use Rattle.link_rivals.proofs.narrowing.narrow_words.Goals as goal
 

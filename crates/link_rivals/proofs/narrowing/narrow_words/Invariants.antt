@@ -1,6 +1,7 @@
 use Rattle.std.proofs.Common.{◌≡◌, ℕ, slice_index}
+use Rattle.link_flags.specs.FlagWords.{numbers_of}
 use Rattle.link_rules.specs.World.{Stage}
-use Rattle.link_rivals.specs.Narrowed.{AreSeen, numbers_of}
+use Rattle.link_rivals.specs.Narrowed.{AreSeen}
 use Rattle.link_rivals.proofs.NarrowPass.{narrowed_at}
 use Rattle.link_rivals.proofs.Passes.{done_below}
 use Rattle.link_rivals.proofs.narrowing.narrow_words.Given as goal

@@ -1,7 +1,7 @@
 use Rattle.std.proofs.Common.{length-append, drop, ◌≡◌, ◌+◌, ◌<◌, ◌++◌, ◌∙◌, ℕ, List, All, refl, sym, ap, subst, arith, length, map}
 use Rattle.std.proofs.lemmas.List.FromFn.{length-range_with_len}
 use Rattle.std.specs.List.{AllZip, flat_map, range_with_len}
-use Rattle.link_flags.specs.FlagWords.{words_of}
+use Rattle.link_flags.specs.FlagWords.{numbers_of, words_of}
 use Rattle.link_groups.specs.declared.group.Group.{Group}
 use Rattle.link_groups.specs.Asked.{AllCanBeAsked}
 use Rattle.link_files.specs.HeldFiles.{HeldFiles, names_in}
@@ -15,7 +15,6 @@ use Rattle.link_reading.specs.Parts.{HasAllFlags}
 use Rattle.link_groups.specs.Groups.{files_of}
 use Rattle.link_rules.specs.Opening.{opening_flags}
 use Rattle.link_db.specs.Adding.{flags_in}
-use Rattle.link_db.specs.RustForm.{numbers_of}
 use Rattle.link_db.specs.Seen.{seen}
 use Rattle.link_db.proofs.Batches.{can-be-asked, can-be-read, flags-behind, names-fit, names-grown, none-added, tabled-names, words-grown}
 use Rattle.link_db.proofs.GroupCounts.{read-count}

@@ -1,9 +1,9 @@
 use Rattle.std.proofs.Common.{◌≡◌, ◌∙◌, map, sym, subst}
 use Rattle.std.specs.Option.{option_to_list}
-use Rattle.link_flags.specs.FlagWords.{words_of}
+use Rattle.link_flags.specs.FlagWords.{numbers_of, words_of}
 use Rattle.link_rules.specs.Places.{each_from}
 use Rattle.link_rules.specs.Rivals.{two_steps}
-use Rattle.link_db.specs.RustForm.{freed, numbers_of}
+use Rattle.link_db.specs.RustForm.{freed}
 use Rattle.link_db.specs.Seen.{seen}
 use Rattle.link_db.proofs.Freed.{freed-none}
 use Rattle.link_db.proofs.database.SymbolDb.free_name.Goals as goal

@@ -1,8 +1,8 @@
 use Rattle.std.proofs.Common.{List, ◌≡◌, ◌+◌, ◌∷◌, [], ◌∙◌, drop, sym, ap, arith}
 use Rattle.std.proofs.lemmas.List.{drop_all}
-use Rattle.link_flags.specs.FlagWords.{words_of}
+use Rattle.link_flags.specs.FlagWords.{numbers_of, words_of}
 use Rattle.link_rules.specs.Places.{Bytes, each_from}
-use Rattle.link_db.specs.RustForm.{freed, numbers_of}
+use Rattle.link_db.specs.RustForm.{freed}
 use Rattle.link_db.specs.RustScript.{freed_by, freed_symbols}
 use Rattle.link_db.specs.Seen.{seen}
 use Rattle.link_db.proofs.Freed.{freed-none}

@@ -1,8 +1,8 @@
 use Rattle.std.proofs.Common.{◌≡◌, drop, length}
-use Rattle.link_flags.specs.FlagWords.{words_of}
+use Rattle.link_flags.specs.FlagWords.{numbers_of, words_of}
 use Rattle.link_rules.specs.Places.{each_from}
 use Rattle.link_db.specs.Database.{symbol_names}
-use Rattle.link_db.specs.RustForm.{freed, numbers_of}
+use Rattle.link_db.specs.RustForm.{freed}
 use Rattle.link_db.specs.RustScript.{freed_symbols}
 use Rattle.link_db.specs.Seen.{seen}
 use Rattle.link_db.proofs.database.SymbolDb.free_names.Given as goal

@@ -1,8 +1,7 @@
 use Rattle.std.proofs.Common.{◌≡◌, ◌∙◌, map, sym, ap, subst, refl, Some}
 use Rattle.std.specs.Prelude.{option_map}
-use Rattle.link_flags.specs.FlagWords.{words_of}
+use Rattle.link_flags.specs.FlagWords.{numbers_of, words_of}
 use Rattle.link_rules.specs.Visibility.{closed_if_local}
-use Rattle.link_db.specs.RustForm.{numbers_of}
 use Rattle.link_db.specs.RustScript.{flags_by_script, freed_symbols}
 use Rattle.link_db.specs.Seen.{seen}
 use Rattle.link_db.proofs.Freed.{freed-closed}
