@@ -12,7 +12,7 @@ impl<P: Platform> SymbolDb<P> {
     ghost use Rattle.std.specs.Prelude.{◌≡◌, ◌≢◌, ◌<◌, ◌||◌, ℕ, All, AllPairs, Contains, IfSome, Some, length, not};
     ghost use Rattle.link_flags.specs.Pick.{pick};
     ghost use Rattle.link_files.specs.HeldFiles.{is_shared_in};
-    ghost use Rattle.link_mapping.specs.Mapped.{mapping_of};
+    ghost use Rattle.link_mapping.specs.Mapped.{later_in, later_versioned_in, mapping_of};
     ghost use Rattle.link_rules.specs.Places.{Bytes};
     ghost use Rattle.link_rules.specs.Targets.{mapped_in, target_in, unshared_in};
     ghost use Rattle.link_db.specs.Database.{name_table_of, symbol_names};
@@ -66,6 +66,25 @@ impl<P: Platform> SymbolDb<P> {
         ensures within { All (λ pair. pair.1 < length (symbol_names (seen self.now))) result }
     {
         self.mapping.mapped_names()
+    }
+
+    /// The definitions of the symbol's name that come behind it, where it is the first of them. Mirrors Wild's alternative definitions.
+    pub fn later_definitions(&self, id: SymbolId) -> &[u32]
+        requires { id < length (symbol_names (seen self.now)) }
+        ensures value { result.now ≡ later_in (seen self.now).mapping id }
+        ensures within { All (λ later. later < length (symbol_names (seen self.now))) result.now }
+    {
+        self.mapping.later_definitions(id)
+    }
+
+    /// The definitions of the symbol's name and version that come behind it, where it is the first of them. One without a version has none.
+    /// Mirrors Wild's alternative versioned definitions.
+    pub fn later_versioned_definitions(&self, id: SymbolId) -> &[u32]
+        requires { id < length (symbol_names (seen self.now)) }
+        ensures value { result.now ≡ later_versioned_in (seen self.now).mapping id }
+        ensures within { All (λ later. later < length (symbol_names (seen self.now))) result.now }
+    {
+        self.mapping.later_versioned_definitions(id)
     }
 
     /// The pick of the later definitions of a symbol's name that are not shared.

@@ -12,7 +12,7 @@ use Rattle.link_files.specs.HeldFiles.{HeldFiles, names_in}
 use Rattle.link_rules.specs.Places.{behind_head, first_of}
 use Rattle.link_mapping.proofs.Listing.{key_with}
 use Rattle.link_mapping.specs.Keys.{plain_key, versioned_key}
-use Rattle.link_mapping.specs.Mapped.{Mapped, later_in, mapped_key}
+use Rattle.link_mapping.specs.Mapped.{Mapped, later_with, mapped_key}
 use Rattle.link_mapping.specs.Seen.{told_by}
 use Rattle.link_mapping.specs.Tables.{AreNamed, key_at}
 
@@ -80,10 +80,11 @@ all_behind P id (x ∷ ids) all = by (x == id)
     by true = λ k d lt. all (suc k) d (omega arith)
     by false = λ k d lt. absurd (omega arith)
 
--- what comes behind a symbol among the definitions of its name
-pub later_found : {P : Type 0} (m : Mapped P) (id : ℕ) (name text found behind : List ℕ) → slice_get (names_in m.files) id ≡ Some name → text ≡ name → found ≡ m.lists (plain_key text) → behind ≡ behind_head id found → behind ≡ later_in m id
-later_found m id name text found behind is same listed rest =
-    rest ∙ ap (behind_head id) listed ∙ ap (λ (n : List ℕ). behind_head id (m.lists (plain_key n))) same ∙ later_named
+-- what comes behind a symbol among the definitions of its name, with this version or without one
+pub later_found : {P : Type 0} (m : Mapped P) (version : Option (List ℕ)) (id : ℕ) (name text found behind : List ℕ) → slice_get (names_in m.files) id ≡ Some name → text ≡ name
+    → found ≡ m.lists (record { name = text; version = version }) → behind ≡ behind_head id found → behind ≡ later_with m version id
+later_found m version id name text found behind is same listed rest =
+    rest ∙ ap (behind_head id) listed ∙ ap (λ (n : List ℕ). behind_head id (m.lists (record { name = n; version = version }))) same ∙ later_named
   where
-    later_named : behind_head id (m.lists (plain_key name)) ≡ later_in m id
+    later_named : behind_head id (m.lists (record { name = name; version = version })) ≡ later_with m version id
     later_named = rw is refl

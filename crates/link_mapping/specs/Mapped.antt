@@ -2,7 +2,7 @@
 use Rattle.std.specs.Prelude.{◌≡◌, ℕ, List, [], Option, None, Some, slice_get}
 use Rattle.std.specs.Option.{option_map_or, option_or}
 use Rattle.link_buckets.specs.Keys.{Key}
-use Rattle.link_files.specs.HeldFiles.{HeldFiles, names_in}
+use Rattle.link_files.specs.HeldFiles.{HeldFiles, names_in, version_of}
 use Rattle.link_input.specs.Symbols.{Symbol}
 use Rattle.link_rules.specs.Names.{Mapping, definitions_of, versioned_definitions_of}
 use Rattle.link_rules.specs.Places.{behind_head, first_of}
@@ -32,6 +32,14 @@ pub record AreListed {P : Type 0} (symbols : List Symbol) (m : Mapped P) : Type 
   pub plain : (name : List ℕ) → m.lists (plain_key name) ≡ definitions_of symbols name
   pub versioned : (name version : List ℕ) → m.lists (versioned_key name version) ≡ versioned_definitions_of symbols name version
 
+-- the definitions of its name, with this version or without one, that come after the symbol, where it is the first of them
+abbrev pub later_with : {P : Type 0} → Mapped P → Option (List ℕ) → ℕ → List ℕ
+later_with m version id = option_map_or (λ name. behind_head id (m.lists (record { name = name; version = version }))) (slice_get (names_in m.files) id) []
+
 -- the definitions of its name that come after the symbol, where it is the first of them
 abbrev pub later_in : {P : Type 0} → Mapped P → ℕ → List ℕ
-later_in m id = option_map_or (λ name. behind_head id (m.lists (plain_key name))) (slice_get (names_in m.files) id) []
+later_in m id = later_with m None id
+
+-- the definitions of its name and version that come after the symbol, where it is the first of them
+abbrev pub later_versioned_in : {P : Type 0} → Mapped P → ℕ → List ℕ
+later_versioned_in m id = option_map_or (λ version. later_with m (Some version) id) (version_of m.files id) []

@@ -23,12 +23,12 @@ pub struct SymbolMapping<P: Platform> {
 }
 
 impl<P: Platform> SymbolMapping<P> {
-    ghost use Rattle.std.specs.Prelude.{◌<◌, ◌≢◌, ℕ, [], List, All, AllPairs, Contains, IfOk, IfSome, None, Some, length, take};
+    ghost use Rattle.std.specs.Prelude.{◌<◌, ◌≢◌, ℕ, [], List, All, AllPairs, Contains, IfOk, IfSome, None, Some, length, option_map, take};
     ghost use Rattle.std.specs.Option.{option_map_or};
     ghost use Rattle.link_names.specs.NameHash.{fnv_1a};
     ghost use Rattle.link_buckets.specs.Keys.{Key, key_of};
     ghost use Rattle.link_files.specs.HeldFiles.{names_in};
-    ghost use Rattle.link_mapping.specs.Mapped.{later_in, mapped_key, mapping_of};
+    ghost use Rattle.link_mapping.specs.Mapped.{later_in, later_versioned_in, later_with, mapped_key, mapping_of};
     ghost use Rattle.link_mapping.specs.Seen.{seen};
 
     /// No files, and so many buckets for names. The only refusal is want of memory.
@@ -94,9 +94,30 @@ impl<P: Platform> SymbolMapping<P> {
         ensures value { result.now ≡ later_in (seen self.now) id }
         ensures within { All (λ later. later < length (names_in (seen self.now).files)) result.now }
     {
+        self.later_of(id, None)
+    }
+
+    /// The definitions of the symbol's name and version that come behind it, where it is the first of them. One without a version has none.
+    pub fn later_versioned_definitions(&self, id: SymbolId) -> &[u32]
+        requires { id < length (names_in (seen self.now).files) }
+        ensures value { result.now ≡ later_versioned_in (seen self.now) id }
+        ensures within { All (λ later. later < length (names_in (seen self.now).files)) result.now }
+    {
+        match self.tables.files.symbol_version(id) {
+            Some(version) => self.later_of(id, Some(version.as_slice())),
+            None => &[],
+        }
+    }
+
+    /// The definitions of the symbol's name, with this version or without one, that come behind it, where it is the first of them.
+    fn later_of(&self, id: SymbolId, version: Option<&[u8]>) -> &[u32]
+        requires { id < length (names_in (seen self.now).files) }
+        ensures value { result.now ≡ later_with (seen self.now) (option_map (λ v. v.now) version.entry) id }
+        ensures within { All (λ later. later < length (names_in (seen self.now).files)) result.now }
+    {
         let name = self.tables.files.symbol_name(id);
         let hash = hash_bytes(name.as_slice());
-        match self.definitions(hash, name.as_slice(), None) {
+        match self.definitions(hash, name.as_slice(), version) {
             Some(definitions) => behind(definitions, id),
             None => &[],
         }

@@ -1,9 +1,14 @@
 -- What is looked up for each symbol of a link.
-use Rattle.std.specs.Prelude.{ℕ, ◌≡◌, List, Option}
+use Rattle.std.specs.Prelude.{ℕ, ◌≡◌, List, Option, None, slice_get}
+use Rattle.std.specs.Option.{option_map_or}
 use Rattle.link_input.specs.Symbols.{Symbol}
 use Rattle.link_rules.specs.Names.{Mapping, first_definition}
 use Rattle.link_rules.specs.Places.{Bytes}
 use Rattle.link_rules.specs.Selection.{Selection}
+
+-- the target that a list has for the symbol of this id
+abbrev pub target_at : List (Option ℕ) → ℕ → Option ℕ
+target_at targets s = option_map_or (λ t. t) (slice_get targets s) None
 
 -- what follows for these symbols, where names are mapped so and these are the targets of loaded references
 pub record IsSelectionOf (symbols : List Symbol) (mapping : Mapping) (targets : List (Option ℕ)) (l : Selection) : Type 0 where

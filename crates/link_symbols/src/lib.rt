@@ -6,6 +6,7 @@ mod file_list;
 mod file_symbols;
 mod strengths;
 mod table;
+mod targets;
 #[cfg(test)]
 mod tests;
 mod view;
@@ -13,4 +14,5 @@ mod view;
 pub use all_symbols::{AllSymbols, symbols};
 pub use strengths::{DiscardedSections, surviving_strengths};
 pub use table::{FirstDefinitions, reference_table};
+pub use targets::target_of;
 pub use view::{SymbolOrigin, SymbolView};

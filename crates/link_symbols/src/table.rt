@@ -1,13 +1,13 @@
 //! What each symbol points to before rivals are settled.
 
-ghost use Rattle.std.specs.Prelude.{◌≡◌, IfOk, None, slice_get};
-ghost use Rattle.std.specs.Option.{option_map_or};
+ghost use Rattle.std.specs.Prelude.{◌≡◌, IfOk};
 ghost use Rattle.link_files.specs.GroupFiles.{symbols_in};
 ghost use Rattle.link_rules.specs.Rivals.{reference_entry, reference_table};
 ghost use Rattle.link_rules.specs.Selection.{Selection};
 ghost use Rattle.link_symbols.specs.Lookups.{IsSelectionOf};
 
 use crate::all_symbols::symbols;
+use crate::targets::target_of;
 use crate::view::SymbolView;
 use link_files::Files;
 use link_ids::SymbolId;
@@ -25,16 +25,6 @@ pub trait FirstDefinitions {
     /// The symbol that the name is mapped to.
     fn first_definition(&self, name: &[u8]) -> Option<SymbolId>
         ensures { result ≡ mapping self.now name.now };
-}
-
-/// The target of the symbol of this id, if it is a loaded reference that has one.
-fn target_of(targets: &[Option<SymbolId>], id: SymbolId) -> Option<SymbolId>
-    ensures { result ≡ option_map_or (λ t. t) (slice_get targets.now id) None }
-{
-    match targets.get(id.as_usize()) {
-        Some(target) => *target,
-        None => None,
-    }
 }
 
 /// What a symbol points to: a forced name to what it is mapped to, another definition to itself, a reference to its target.

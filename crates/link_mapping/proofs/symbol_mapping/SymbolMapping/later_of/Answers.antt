@@ -1,13 +1,13 @@
 use Rattle.std.proofs.Common.{◌<◌, ℕ, [], length, refl, subst, sym}
-use Rattle.std.specs.Prelude.{All}
+use Rattle.std.specs.Prelude.{All, option_map}
 use Rattle.link_files.specs.HeldFiles.{names_in}
 use Rattle.link_mapping.specs.Seen.{seen}
 use Rattle.link_mapping.proofs.Telling.{all_behind, later_found}
-use Rattle.link_mapping.proofs.symbol_mapping.SymbolMapping.later_definitions.Goals as goal
+use Rattle.link_mapping.proofs.symbol_mapping.SymbolMapping.later_of.Goals as goal
 
 pub returns-in-Some-clause-value : goal.returns-in-Some-clause-value
 returns-in-Some-clause-value g c =
-    later_found (seen c.args.self.now) c.args.id c.symbol_name-name.result c.as_slice-2.result.now c.in-Some.definitions.now c.behind.result.now c.symbol_name-name.ensures c.as_slice-2.ensures c.in-Some.ensures.value c.behind.ensures
+    later_found (seen c.args.self.now) (option_map (λ v. v.now) c.args.version) c.args.id c.symbol_name-name.result c.as_slice-2.result.now c.in-Some.definitions.now c.behind.result.now c.symbol_name-name.ensures c.as_slice-2.ensures c.in-Some.ensures.value c.behind.ensures
 
 pub returns-in-Some-clause-within : goal.returns-in-Some-clause-within
 returns-in-Some-clause-within g c =
@@ -16,4 +16,4 @@ returns-in-Some-clause-within g c =
 
 pub returns-in-None-clause-value : goal.returns-in-None-clause-value
 returns-in-None-clause-value g c =
-    later_found (seen c.args.self.now) c.args.id c.symbol_name-name.result c.as_slice-2.result.now [] [] c.symbol_name-name.ensures c.as_slice-2.ensures c.in-None.ensures.value refl
+    later_found (seen c.args.self.now) (option_map (λ v. v.now) c.args.version) c.args.id c.symbol_name-name.result c.as_slice-2.result.now [] [] c.symbol_name-name.ensures c.as_slice-2.ensures c.in-None.ensures.value refl

@@ -1,0 +1,15 @@
+//! What is known of each symbol once the loaded objects are, by the ids of symbols; and the flags that references give to what they stand
+//! for.
+#![tactic(auto)]
+
+mod columns;
+mod laws;
+mod marks;
+mod targets;
+#[cfg(test)]
+mod tests;
+
+pub use columns::{dynamic_symbols, held_symbols, visibilities};
+pub use laws::{kept_targets_are_those_of_a_link, marks_make_the_flags};
+pub use marks::{mark_names, mark_targets};
+pub use targets::loaded_targets;
