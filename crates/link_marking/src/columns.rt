@@ -2,7 +2,7 @@
 
 ghost use Rattle.std.specs.Prelude.{◌≡◌, IfOk, map};
 ghost use Rattle.link_files.specs.GroupFiles.{symbols_in};
-ghost use Rattle.link_input.specs.Symbols.{is_shared, visibility_in};
+ghost use Rattle.link_input.specs.Symbols.{is_shared, object_in, visibility_in};
 ghost use Rattle.link_rules.specs.Rivals.{is_in_loaded_regular};
 
 use link_files::Files;
@@ -21,6 +21,21 @@ pub fn dynamic_symbols<P: Platform>(
     let mut column = Vec::with_capacity(alloc, files.num_symbols())?;
     for (_, symbol) in symbols(files) {
         column.push(symbol.is_shared())?;
+    }
+    Ok(column)
+}
+
+/// The place of the object that holds the symbol, among all objects of the link, for each symbol of the files, by its id. The only refusal is
+/// want of memory.
+pub fn object_places<P: Platform>(
+    alloc: Global,
+    files: &Files<P>,
+) -> Result<Vec<Option<usize>>, AllocError>
+    ensures { IfOk result (λ column. column.items ≡ map (λ x. object_in x.origin) (symbols_in files.now.groups)) }
+{
+    let mut column = Vec::with_capacity(alloc, files.num_symbols())?;
+    for (_, symbol) in symbols(files) {
+        column.push(symbol.object())?;
     }
     Ok(column)
 }

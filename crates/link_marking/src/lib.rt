@@ -9,7 +9,7 @@ mod targets;
 #[cfg(test)]
 mod tests;
 
-pub use columns::{dynamic_symbols, held_symbols, visibilities};
+pub use columns::{dynamic_symbols, held_symbols, object_places, visibilities};
 pub use laws::{kept_targets_are_those_of_a_link, marks_make_the_flags};
 pub use marks::{mark_names, mark_targets};
 pub use targets::loaded_targets;

@@ -1,6 +1,6 @@
 //! That each pass answers where memory is ample. What it answers is in the contracts.
 
-use crate::{dynamic_symbols, held_symbols, loaded_targets, visibilities};
+use crate::{dynamic_symbols, held_symbols, loaded_targets, object_places, visibilities};
 use link_files::Files;
 use link_groups::create_groups;
 use link_input::{Inputs, MachLike, Options};
@@ -28,7 +28,8 @@ fn columns(alloc: Global, files: &Files<MachLike>) -> Result<String, AllocError>
     let visibilities = visibilities(alloc, files)?;
     let held = held_symbols(alloc, files, &[])?;
     let targets = loaded_targets(alloc, files, &[], &[None])?;
-    format!(in alloc; "{dynamic:?} {visibilities:?} {held:?} {}", targets.len())
+    let places = object_places(alloc, files)?;
+    format!(in alloc; "{dynamic:?} {visibilities:?} {held:?} {} {places:?}", targets.len())
 }
 
 #[test]
@@ -37,7 +38,7 @@ fn columns_are_made(rt: HostRuntime) -> Result<(), Fail> {
     let files = files(alloc)?;
     assert_eq!(rt;
         columns(alloc, &files)?.as_str(),
-        "[false] [Default] [false] 1"
+        "[false] [Default] [false] 1 [None]"
     );
     Ok(())
 }

@@ -78,14 +78,14 @@ plain-lists w = lists-of (plain_list w) w.symbols (record {
         place-in (λ y. is_listed y && bytes_eq y.name x.name) w.symbols s x at (ap (λ b. b && bytes_eq x.name x.name) is ∙ same-text x.name)
 
 -- a definition of a name and version, with its place
-record IsVersionedAt (w : Stage) (s : ℕ) (name version : Bytes) (x : Symbol) : Type 0 where
-  at : slice_get w.symbols s ≡ Some x
-  listed : is_version_listed x ≡ true
-  named : x.name ≡ name
-  of : x.version ≡ Some version
+pub record IsVersionedAt (w : Stage) (s : ℕ) (name version : Bytes) (x : Symbol) : Type 0 where
+  pub at : slice_get w.symbols s ≡ Some x
+  pub listed : is_version_listed x ≡ true
+  pub named : x.name ≡ name
+  pub of : x.version ≡ Some version
 
 -- each definition of a name and version is listed under it
-versioned_in : (w : Stage) (name version : Bytes) (s : ℕ) → Contains (versioned_definitions_of w.symbols name version) s → (x : Symbol) × IsVersionedAt w s name version x
+pub versioned_in : (w : Stage) (name version : Bytes) (s : ℕ) → Contains (versioned_definitions_of w.symbols name version) s → (x : Symbol) × IsVersionedAt w s name version x
 versioned_in w name version s within =
     All-contains Listed places s (All-from_recursion Listed places (places-all Listed test 0 w.symbols (all-places (λ t x. test x ≡ true → Listed t) w.symbols each))) within
   where

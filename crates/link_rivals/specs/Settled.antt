@@ -1,5 +1,5 @@
 -- What each symbol points to once lists of rivals are settled, and which of their entries clash.
-use Rattle.std.specs.Prelude.{ℕ, ◌&&◌, List, [], map, slice_get, Option, None, if◌then◌else◌, length, filter_map, option_map, slice_index}
+use Rattle.std.specs.Prelude.{ℕ, ◌&&◌, ◌<◌, List, [], map, slice_get, Option, None, if◌then◌else◌, length, filter_map, option_map, slice_index}
 use Rattle.std.specs.List.{range_with_len}
 use Rattle.std.specs.Option.{option_map_or}
 use Rattle.link_rules.specs.Places.{Bytes, contains, each_from, first_of, are_several, is_number}
@@ -20,6 +20,10 @@ settled_table l listed table = each_from (settled_at l listed table) 0 table
 -- two entries of the list that begins with this symbol
 abbrev pub clash_of : ℕ → ℕ × ℕ → Clash
 clash_of head pair = record { head = head; first = pair.0; second = pair.1 }
+
+-- its symbols are below a count
+abbrev pub IsInside : ℕ → Clash → Type 0
+IsInside n c = (c.head < n) × ((c.first < n) × (c.second < n))
 
 -- the clash of a list, if it begins with this symbol
 abbrev pub clash_at : Selection → List ℕ → List ℕ → ℕ → Option Clash

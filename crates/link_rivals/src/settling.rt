@@ -1,11 +1,11 @@
 //! What each symbol points to once rivals are settled.
 
-ghost use Rattle.std.specs.Prelude.{◌≡◌, ◌<◌, ◌≤◌, ◌^◌, ◌∷◌, ℕ, All, IfOk, OnOk, if◌then◌else◌, length, map, option_map, slice_index};
+ghost use Rattle.std.specs.Prelude.{◌≡◌, ◌<◌, ◌≤◌, ◌^◌, ◌∷◌, ℕ, All, IfOk, IfSome, OnOk, if◌then◌else◌, length, map, option_map, slice_index};
 ghost use Rattle.link_rules.specs.Places.{contains};
 ghost use Rattle.link_rules.specs.Rivals.{clash, stand_in};
 ghost use Rattle.link_rules.specs.Selection.{Selection};
 ghost use Rattle.link_rivals.specs.Lists.{AreLists};
-ghost use Rattle.link_rivals.specs.Settled.{clash_at, clash_of, clashes, settled_among, settled_on, settled_table};
+ghost use Rattle.link_rivals.specs.Settled.{IsInside, clash_at, clash_of, clashes, settled_among, settled_on, settled_table};
 ghost use Rattle.link_rivals.specs.Survivors.{Tells};
 
 use crate::lists::RivalLists;
@@ -43,6 +43,7 @@ pub fn settle<L: RivalLists>(
     ensures clashes { IfOk result (λ told. (l : Selection) → Tells survivors.now l
         → told.items ≡ clashes l (L.listed lists.now) table.old) }
     ensures inside { All (λ t. t < length table.new) table.new }
+    ensures told { IfOk result (λ told. All (IsInside (length table.old)) told.items) }
 {
     let mut clashes = Vec::new(alloc);
     let mut entries = Vec::new(alloc);
@@ -74,6 +75,7 @@ fn settle_head<L: RivalLists>(
     ensures clash { IfOk result (λ told. (l : Selection) → Tells survivors.now l
         → told ≡ clash_at l (L.listed lists.now head) table.old head) }
     ensures inside { All (λ t. t < length table.new) table.new }
+    ensures told { IfOk result (λ told. IfSome told (IsInside (length table.old))) }
 {
     let later = lists.later(head);
     if later.is_empty() {
@@ -100,6 +102,7 @@ fn settle_list(
     ensures clash { IfOk result (λ told. (l : Selection) → Tells survivors.now l
         → told ≡ option_map (clash_of head) (clash l (map (stand_in l table.old) (head ∷ later.now)))) }
     ensures inside { All (λ t. t < length table.new) table.new }
+    ensures told { IfOk result (λ told. IfSome told (IsInside (length table.old))) }
 {
     fill_entries(survivors, head, later, table, entries)?;
     match survivors.clash(entries.as_slice()) {

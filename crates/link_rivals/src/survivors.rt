@@ -141,7 +141,8 @@ impl<'a> Survivors<'a> {
     /// The first strong entry.
     fn first_strong(&self, entries: &[SymbolId]) -> Option<SymbolId>
         requires { All (λ e. e < length self.now.strengths.now) entries.now }
-        ensures { (l : Selection) → Tells self.now l → result ≡ first_of (strong_entries l entries.now) }
+        ensures value { (l : Selection) → Tells self.now l → result ≡ first_of (strong_entries l entries.now) }
+        ensures inside { IfSome result (λ id. id < length self.now.strengths.now) }
     {
         for entry in entries {
             if self.is_strong(*entry) {
@@ -154,7 +155,8 @@ impl<'a> Survivors<'a> {
     /// The first strong entry that is not this one.
     fn strong_beside(&self, first: SymbolId, entries: &[SymbolId]) -> Option<SymbolId>
         requires { All (λ e. e < length self.now.strengths.now) entries.now }
-        ensures { (l : Selection) → Tells self.now l → result ≡ find (λ s. not (s == first)) (strong_entries l entries.now) }
+        ensures value { (l : Selection) → Tells self.now l → result ≡ find (λ s. not (s == first)) (strong_entries l entries.now) }
+        ensures inside { IfSome result (λ id. id < length self.now.strengths.now) }
     {
         for entry in entries {
             if self.is_strong(*entry) && *entry != first {
@@ -167,7 +169,8 @@ impl<'a> Survivors<'a> {
     /// Two different strong entries of a list, where that is not allowed.
     pub fn clash(&self, entries: &[SymbolId]) -> Option<(SymbolId, SymbolId)>
         requires { All (λ e. e < length self.now.strengths.now) entries.now }
-        ensures { (l : Selection) → Tells self.now l → result ≡ clash l entries.now }
+        ensures value { (l : Selection) → Tells self.now l → result ≡ clash l entries.now }
+        ensures inside { IfSome result (λ pair. (pair.0 < length self.now.strengths.now) × (pair.1 < length self.now.strengths.now)) }
     {
         if self.allow_multiple {
             return None;
