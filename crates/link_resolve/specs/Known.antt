@@ -6,7 +6,7 @@ use Rattle.link_rules.specs.Places.{Bytes}
 use Rattle.link_rules.specs.Rules.{PlatformRules}
 use Rattle.link_rules.specs.Selection.{Selection}
 use Rattle.link_mapping.specs.Mapped.{AreListed}
-use Rattle.link_db.specs.Database.{Database, HasTable}
+use Rattle.link_db.specs.Database.{Database}
 use Rattle.link_stage.specs.AtStage.{IsAtStage}
 
 -- a mark for each loaded object, what the references of these stand for, and how strongly each symbol binds now
@@ -22,8 +22,7 @@ pub record IsSelection {P : Type 0} (platform : PlatformRules) (demangle : Bytes
   pub targets : l.targets ≡ known.targets
   pub strengths : l.strengths ≡ known.strengths
 
--- the database lists the definitions of each name, and has no symbol of the linker's own yet; its table is not taken
+-- the database lists the definitions of each name, and has no symbol of the linker's own yet
 pub record IsListed {P : Type 0} (db : Database P) : Type 0 where
   pub lists : AreListed (symbols_in db.mapping.files.groups) db.mapping
   pub added : db.mapping.files.added ≡ []
-  pub table : HasTable db

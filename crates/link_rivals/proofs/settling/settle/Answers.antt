@@ -1,7 +1,8 @@
-use Rattle.std.proofs.Common.{◌++◌, ◌∙◌, ap, arith, length, sym, zero-add}
-use Rattle.std.specs.Prelude.{option_to_list}
+use Rattle.std.proofs.Common.{◌++◌, ◌∙◌, ap, arith, length, subst, sym, zero-add}
+use Rattle.std.specs.Prelude.{All, IfSome, option_to_list}
 use Rattle.std.proofs.lemmas.List.{append-nil}
-use Rattle.link_rivals.specs.Settled.{clash_at, settled_at, settled_on}
+use Rattle.std.proofs.lemmas.List.Elements.{All-push}
+use Rattle.link_rivals.specs.Settled.{IsInside, clash_at, settled_at, settled_on}
 use Rattle.link_rivals.proofs.Passes.{list-is, number-at}
 use Rattle.link_rivals.proofs.SettlePass.{clash-same, clashes-more, settled-all, settled-more}
 use Rattle.link_rivals.proofs.settling.settle.Goals as goal
@@ -31,6 +32,13 @@ loop-number-preserved g c =
                 ∙ sym (ap (λ o. c.loop-number.clashes.items ++ option_to_list o) w.in_default.is ∙ append-nil c.loop-number.clashes.items)
           ])
           ∙ so_far.clashes selection tells;
+      told = elim c.match-told.branch [
+        | in-Some+in_ok-push w ↦
+            let one : IsInside (length table) w.in-Some.clash = subst (λ o. IfSome o (IsInside (length table))) w.in-Some.is c.in_ok-told.ensures.told in
+            subst (All (IsInside (length old))) (sym (ap (λ v. v.items) w.clashes-is ∙ w.in_ok-push.ensures.items))
+            (All-push (IsInside (length old)) c.loop-number.clashes.items w.in-Some.clash so_far.told (subst (λ n. IsInside n w.in-Some.clash) (omega arith) one))
+        | in_default w ↦ subst (All (IsInside (length old))) (sym (ap (λ v. v.items) w.clashes-is)) so_far.told
+      ];
     }
 
 pub returns-clause-table : goal.returns-clause-table

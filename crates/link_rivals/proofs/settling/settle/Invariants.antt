@@ -1,7 +1,7 @@
 use Rattle.std.proofs.Common.{◌≡◌, ◌-◌, ◌<◌, ◌++◌, ℕ, All, filter_map, length, slice_index}
 use Rattle.std.specs.List.{range_with_len}
 use Rattle.link_rules.specs.Selection.{Selection}
-use Rattle.link_rivals.specs.Settled.{clash_at, clashes}
+use Rattle.link_rivals.specs.Settled.{IsInside, clash_at, clashes}
 use Rattle.link_rivals.specs.Survivors.{Tells}
 use Rattle.link_rivals.proofs.SettlePass.{settled_below}
 use Rattle.link_rivals.proofs.settling.settle.Given as goal
@@ -14,4 +14,5 @@ invariant-loop-number g l = record {
   clashes : (selection : Selection) → Tells l.survivors selection
       → l.clashes.items ++ filter_map (λ s. clash_at selection (g.L.RivalLists.listed l.lists s) l.fn.table s) (range_with_len l.number (length l.fn.table - l.number))
       ≡ clashes selection (g.L.RivalLists.listed l.lists) l.fn.table;
+  told : All (IsInside (length l.fn.table)) l.clashes.items;
 }

@@ -1,0 +1,146 @@
+//! Which of several definitions of a name counts, once it is known which objects are loaded.
+
+ghost use Rattle.std.specs.Prelude.{◌≡◌, ◌++◌, ◌<◌, ◌≤◌, ◌^◌, All, IfOk, OnErr, OnOk, length, map, take};
+ghost use Rattle.link_files.specs.GroupFiles.{symbols_in};
+ghost use Rattle.link_files.specs.Inputs.{objects_in};
+ghost use Rattle.link_flags.specs.FlagWords.{numbers_of, words_of};
+ghost use Rattle.link_input.specs.Symbols.{is_shared, visibility_in};
+ghost use Rattle.link_loader.specs.Causes.{TellsCause};
+ghost use Rattle.link_loader.specs.Holds.{platform_of};
+ghost use Rattle.link_rivals.specs.Settled.{IsInside, clash_line};
+ghost use Rattle.link_rivals.specs.Survivors.{Tells};
+ghost use Rattle.link_rules.specs.Places.{Bytes, each_from};
+ghost use Rattle.link_rules.specs.Refusals.{duplicate_lines, plain_duplicates, unless_none, versioned_duplicates};
+ghost use Rattle.link_rules.specs.Rivals.{plain_table, reference_table, versioned_table};
+ghost use Rattle.link_rules.specs.Selection.{Selection};
+ghost use Rattle.link_rules.specs.Sorting.{sorted_texts};
+ghost use Rattle.link_rules.specs.Visibility.{narrowed_symbol};
+ghost use Rattle.link_rules.specs.World.{Stage};
+ghost use Rattle.link_db.specs.Database.{HasTable};
+ghost use Rattle.link_db.specs.Seen.{seen};
+ghost use Rattle.link_resolve.specs.Known.{IsListed, IsSelection};
+
+use crate::duplicates::refuse_duplicates;
+use crate::lists::{PlainLists, VersionedLists};
+use crate::resolved::Resolved;
+use link_db::SymbolDb;
+use link_flags::{PerSymbolFlags, Visibility};
+use link_ids::SymbolId;
+use link_input::Platform;
+use link_marking::{dynamic_symbols, held_symbols, visibilities};
+use link_rivals::{Clash, Survivors, narrow, settle};
+use link_rules::LinkError;
+use std::alloc::{AllocError, Global};
+
+/// Settles the definitions of plain names, over what references give.
+fn settle_plain<P: Platform>(
+    alloc: Global,
+    db: &SymbolDb<P>,
+    survivors: &Survivors,
+    table: &mut [SymbolId],
+) -> Result<Vec<Clash>, AllocError>
+    requires listed { IsListed (seen db.now) }
+    requires count { length table.old ≡ length (symbols_in (seen db.now).mapping.files.groups) }
+    requires columns { length survivors.now.strengths.now ≡ length table.old }
+    requires inside { All (λ t. t < length table.old) table.old }
+    requires numbers { length table.old ≤ 2 ^ 32 }
+    ensures table { OnOk result ((l : Selection) → Tells survivors.now l → l.stage.symbols ≡ symbols_in (seen db.now).mapping.files.groups
+        → table.old ≡ reference_table l → table.new ≡ plain_table l) }
+    ensures clashes { IfOk result (λ told. (l : Selection) → Tells survivors.now l → l.stage.symbols ≡ symbols_in (seen db.now).mapping.files.groups
+        → table.old ≡ reference_table l → map (clash_line l.stage) told.items ≡ plain_duplicates l) }
+    ensures inside { All (λ t. t < length table.new) table.new }
+    ensures len { length table.new ≡ length table.old }
+    ensures told { IfOk result (λ told. All (IsInside (length table.old)) told.items) }
+{
+    settle(alloc, survivors, &PlainLists { db }, table)
+}
+
+/// Settles the definitions of names with versions, over what plain names are settled to.
+fn settle_versioned<P: Platform>(
+    alloc: Global,
+    db: &SymbolDb<P>,
+    survivors: &Survivors,
+    table: &mut [SymbolId],
+) -> Result<Vec<Clash>, AllocError>
+    requires listed { IsListed (seen db.now) }
+    requires count { length table.old ≡ length (symbols_in (seen db.now).mapping.files.groups) }
+    requires columns { length survivors.now.strengths.now ≡ length table.old }
+    requires inside { All (λ t. t < length table.old) table.old }
+    requires numbers { length table.old ≤ 2 ^ 32 }
+    ensures table { OnOk result ((l : Selection) → Tells survivors.now l → l.stage.symbols ≡ symbols_in (seen db.now).mapping.files.groups
+        → table.old ≡ plain_table l → table.new ≡ versioned_table l) }
+    ensures clashes { IfOk result (λ told. (l : Selection) → Tells survivors.now l → l.stage.symbols ≡ symbols_in (seen db.now).mapping.files.groups
+        → table.old ≡ plain_table l → map (clash_line l.stage) told.items ≡ versioned_duplicates l (plain_table l)) }
+    ensures inside { All (λ t. t < length table.new) table.new }
+    ensures len { length table.new ≡ length table.old }
+    ensures told { IfOk result (λ told. All (IsInside (length table.old)) told.items) }
+{
+    settle(alloc, survivors, &VersionedLists { db }, table)
+}
+
+/// Makes each symbol as visible as the strictest of its name, and of its name and version.
+fn narrow_names<P: Platform>(
+    db: &SymbolDb<P>,
+    visibilities: &[Visibility],
+    dynamic: &[bool],
+    flags: &mut PerSymbolFlags,
+)
+    requires listed { IsListed (seen db.now) }
+    requires visibilities { visibilities.now ≡ map (λ x. visibility_in x.origin) (symbols_in (seen db.now).mapping.files.groups) }
+    requires dynamic { dynamic.now ≡ map (λ x. is_shared x.origin) (symbols_in (seen db.now).mapping.files.groups) }
+    requires flags { length (words_of flags.old) ≡ length dynamic.now }
+    requires numbers { length dynamic.now ≤ 2 ^ 32 }
+    ensures flags { (w : Stage) → w.symbols ≡ symbols_in (seen db.now).mapping.files.groups
+        → numbers_of (words_of flags.new) ≡ each_from (narrowed_symbol w (numbers_of (words_of flags.old))) 0 w.symbols }
+    ensures len { length (words_of flags.new) ≡ length (words_of flags.old) }
+{
+    narrow(&PlainLists { db }, visibilities, dynamic, flags);
+    narrow(&VersionedLists { db }, visibilities, dynamic, flags);
+}
+
+/// Settles which of several definitions of a name counts, now that it is known which objects are loaded. Where two or more symbols define a name, or a
+/// name and version, each of them points to the one that counts; all of them that no shared file gives become as visible as the strictest, loaded or not. The
+/// later definitions of names are given up then.
+///
+/// It is refused with the names of which two strong definitions are left, where the options don't allow several, and with `Memory`; then the
+/// database is gone, and the flags are as they were.
+pub fn resolve_alternative_symbol_definitions<P: Platform>(
+    alloc: Global,
+    mut db: SymbolDb<P>,
+    flags: &mut PerSymbolFlags,
+    resolved: &Resolved,
+) -> Result<SymbolDb<P>, LinkError>
+    requires listed { IsListed (seen db) }
+    requires table { HasTable (seen db) }
+    requires known { length resolved.now.strengths ≡ length (symbols_in (seen db).mapping.files.groups) }
+    requires flags { length (words_of flags.old) ≡ length (symbols_in (seen db).mapping.files.groups) }
+    ensures cause { (demangle : Bytes → Bytes) (l : Selection) → IsSelection (platform_of P.Platform) demangle (seen db) resolved.now l
+        → (seen db).table ≡ reference_table l → TellsCause (unless_none (duplicate_lines l)) result }
+    ensures table { IfOk result (λ left. (demangle : Bytes → Bytes) (l : Selection) → IsSelection (platform_of P.Platform) demangle (seen db) resolved.now l
+        → (seen db).table ≡ reference_table l → (seen left).table ≡ versioned_table l) }
+    ensures flags { OnOk result ((w : Stage) → w.symbols ≡ symbols_in (seen db).mapping.files.groups
+        → numbers_of (words_of flags.new) ≡ each_from (narrowed_symbol w (numbers_of (words_of flags.old))) 0 w.symbols) }
+    ensures rest { IfOk result (λ left. seen left ≡ record (seen db) { table = (seen left).table;
+        mapping = record (seen db).mapping { lists = λ key. take 1 ((seen db).mapping.lists key) } }) }
+    ensures whole { IfOk result (λ left. HasTable (seen left)) }
+    ensures err { OnErr result (words_of flags.new ≡ words_of flags.old) }
+{
+    let dynamic = dynamic_symbols(alloc, db.files())?;
+    let held = held_symbols(alloc, db.files(), resolved.loaded())?;
+    let visibilities = visibilities(alloc, db.files())?;
+    let survivors = Survivors {
+        strengths: resolved.strengths(),
+        dynamic: dynamic.as_slice(),
+        held: held.as_slice(),
+        weak_overrides_common: P::WEAK_SYMBOLS_OVERRIDE_COMMON,
+        allow_multiple: db.options().allow_multiple,
+    };
+    let mut table = db.take_definitions();
+    let plain = settle_plain(alloc, &db, &survivors, table.as_mut_slice())?;
+    let versioned = settle_versioned(alloc, &db, &survivors, table.as_mut_slice())?;
+    db.restore_definitions(table);
+    refuse_duplicates(alloc, &db, plain.as_slice(), versioned.as_slice())?;
+    narrow_names(&db, visibilities.as_slice(), dynamic.as_slice(), flags);
+    db.release_alternatives();
+    Ok(db)
+}
