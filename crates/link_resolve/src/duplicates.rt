@@ -67,7 +67,7 @@ fn name_at<'a>(names: &[NameView<'a>], place: usize) -> NameView<'a>
     ensures { result ≡ option_map_or (λ name. name) (slice_get names.now place) [] }
 {
     match names.get(place) {
-        Some(name) => *name,
+        Some(name) => NameView::new(name.as_slice()),
         None => NameView::new(&[]),
     }
 }

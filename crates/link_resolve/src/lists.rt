@@ -9,6 +9,7 @@ use link_input::Platform;
 use link_rivals::RivalLists;
 
 /// The definitions of plain names.
+#[derive(Drop)]
 pub struct PlainLists<'a, P: Platform> {
     pub db: &'a SymbolDb<P>,
     ghost listed: { IsListed (seen db.now) },
@@ -30,6 +31,7 @@ impl<'a, P: Platform> RivalLists for PlainLists<'a, P> {
 }
 
 /// The definitions of names with versions.
+#[derive(Drop)]
 pub struct VersionedLists<'a, P: Platform> {
     pub db: &'a SymbolDb<P>,
     ghost listed: { IsListed (seen db.now) },
