@@ -1,5 +1,5 @@
 -- A table that marks sections, as it grows.
-use Rattle.std.proofs.Common.{◌≡◌, ◌<◌, ◌==◌, ◌||◌, ◌&&◌, ◌+◌, ℕ, Bool, true, false, not, List, [], ◌∷◌, ◌++◌, zero, suc, replicate, length, get_or, set, drop, refl, sym, ap, subst, inl, inr, ◌∙◌, All, arith, length-append}
+use Rattle.std.proofs.Common.{◌≡◌, ◌<◌, ◌==◌, ◌||◌, ◌&&◌, ◌+◌, ℕ, Bool, true, false, not, List, [], ◌∷◌, zero, suc, replicate, length, get_or, set, drop, refl, sym, ap, subst, inl, inr, ◌∙◌, All, arith, length-append}
 use Rattle.std.proofs.lemmas.Bool.{cases_eq, eq-eqb, ne_eqb, or_right}
 use Rattle.std.specs.List.{list_any, list_all, zip}
 use Rattle.std.proofs.lemmas.List.{get_or-set_same, get_or-set_other, get_or_append_left, get_or_at, at_drop_more, drop_more}

@@ -1,5 +1,5 @@
 -- A set of names, as one is added.
-use Rattle.std.proofs.Common.{◌≡◌, ◌||◌, ℕ, Bool, true, false, cond, List, Bor, refl, sym, ap, subst, ◌∙◌}
+use Rattle.std.proofs.Common.{◌≡◌, ◌||◌, ℕ, Bool, true, false, List, Bor, refl, sym, ap, subst, ◌∙◌}
 use Rattle.std.specs.Set.{KeepsOthers}
 use Rattle.std.specs.HashSet as bag
 use Rattle.std.specs.HashSet.{HashSet}

@@ -1,7 +1,6 @@
 -- A table that notes of each member its group, as it grows.
-use Rattle.std.proofs.Common.{◌≡◌, ◌<◌, ◌+◌, ◌==◌, ◌||◌, ℕ, Bool, true, false, if◌then◌else◌, List, [], ◌∷◌, ◌++◌, zero, suc, replicate, length, get_or, set, take, drop, Option, Some, None, refl, sym, ap, subst, inl, inr, ◌∙◌, arith}
+use Rattle.std.proofs.Common.{◌≡◌, ◌<◌, ◌+◌, ◌==◌, ◌||◌, ℕ, Bool, true, false, if◌then◌else◌, List, [], ◌∷◌, ◌++◌, zero, suc, replicate, length, get_or, set, take, drop, Option, Some, None, refl, sym, ap, subst, inl, inr, ◌∙◌}
 use Rattle.std.specs.Option.{option_or, is_some}
-use Rattle.std.specs.List.{list_any}
 use Rattle.std.proofs.lemmas.Bool.{cases_eq, eq-eqb, eqb-true, ne_eqb, both_ways}
 use Rattle.std.proofs.lemmas.List.{get_or-set_same, get_or-set_other, at_drop_more, drop_more}
 use Rattle.std.proofs.lemmas.List.Folds.{list_any_more}
@@ -9,7 +8,7 @@ use Rattle.link_input.specs.declared.object.SectionGroup.{SectionGroup}
 use Rattle.link_input.specs.Checks.{first_place}
 use Rattle.link_rules.specs.Places.{contains}
 use Rattle.link_rules.specs.Refusals.{first_repeated}
-use Rattle.link_comdat.specs.Tables.{members_of, group_with, group_at, is_noted, first_again}
+use Rattle.link_comdat.specs.Tables.{members_of, group_at, is_noted, first_again}
 
 -- what a table says once one section is noted
 pub group_at-set : (table : List (Option ℕ)) (x g n : ℕ) → x < length table → group_at (set table x (Some g)) n ≡ (if x == n then Some g else group_at table n)

@@ -1,12 +1,11 @@
 -- Objects whose groups are selected one after another.
-use Rattle.std.proofs.Common.{◌≡◌, ◌<◌, ◌≤◌, ◌+◌, ℕ, Bool, List, [], ◌∷◌, ◌++◌, map, length, get_or, drop, Option, None, refl, sym, ap, ◌∙◌, append_assoc, arith}
+use Rattle.std.proofs.Common.{◌≡◌, ◌<◌, ◌≤◌, ◌+◌, ℕ, Bool, List, [], ◌∷◌, ◌++◌, map, length, get_or, drop, None, refl, sym, ap, ◌∙◌, append_assoc}
 use Rattle.std.specs.Prelude.{filter_map}
 use Rattle.std.specs.List.{flat_map}
 use Rattle.std.specs.List.Sorted.{IsStrictlyIncreasing}
 use Rattle.std.proofs.lemmas.List.{drop_more, at_drop_all, append-nil}
 use Rattle.link_input.specs.ObjectFile.{ObjectFile}
 use Rattle.link_rules.specs.declared.linked.KeptGroup.{KeptGroup}
-use Rattle.link_rules.specs.declared.refusal.LinkError.{LinkError}
 use Rattle.link_rules.specs.Places.{Bytes, first_of}
 use Rattle.link_rules.specs.Comdat.{groups_of}
 use Rattle.link_rules.specs.Refusals.{group_cause}

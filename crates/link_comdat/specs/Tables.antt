@@ -1,5 +1,5 @@
 -- What the tables by sections say of an object's groups.
-use Rattle.std.specs.Prelude.{◌≡◌, ◌<◌, ◌==◌, ◌||◌, ℕ, List, [], ◌∷◌, length, Bool, false, Option, Some, None, All, is_some, if◌then◌else◌}
+use Rattle.std.specs.Prelude.{◌≡◌, ◌<◌, ◌==◌, ◌||◌, ℕ, List, [], ◌∷◌, length, Bool, Option, Some, None, All, is_some, if◌then◌else◌}
 use Rattle.std.specs.List.{flat_map, slice_index_or}
 use Rattle.link_closure.specs.Closure.{is_marked}
 use Rattle.link_input.specs.declared.object.SectionGroup.{SectionGroup}

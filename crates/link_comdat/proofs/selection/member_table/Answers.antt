@@ -1,5 +1,4 @@
 use Rattle.std.proofs.Common.{◌≡◌, ◌∙◌, sym, ap, None, Some, Option, option_map, ℕ, inr, List, [], replicate}
-use Rattle.link_rules.specs.declared.refusal.LinkError.{LinkError}
 use Rattle.link_rules.specs.declared.refusal.LinkError.TheVariants.{SectionInTwoGroups}
 use Rattle.link_rules.specs.Places.{Bytes}
 use Rattle.link_rules.specs.Refusals.{first_repeated}

@@ -1,5 +1,4 @@
-use Rattle.std.proofs.Common.{◌≡◌, ◌∙◌, ap, sym, ℕ, List, length}
-use Rattle.link_input.specs.declared.object.SectionGroup.{SectionGroup}
+use Rattle.std.proofs.Common.{◌≡◌, ◌∙◌, ap, sym, ℕ, length}
 use Rattle.link_input.specs.declared.object.ObjectTable.{ObjectTable}
 use Rattle.link_input.specs.ObjectFile.{ObjectFile}
 use Rattle.link_rules.specs.Comdat.{groups_of}

@@ -1,4 +1,4 @@
-use Rattle.std.proofs.Common.{◌≡◌, ◌<◌, ◌≤◌, ◌++◌, ◌||◌, ◌&&◌, ◌∙◌, ap, sym, subst, ℕ, Bool, List, [], ◌∷◌, length, drop, not, ◌+◌, Some, arith}
+use Rattle.std.proofs.Common.{◌≡◌, ◌≤◌, ◌++◌, ◌||◌, ◌&&◌, ◌∙◌, ap, sym, ℕ, Bool, List, [], ◌∷◌, length, drop, not, ◌+◌, Some, arith}
 use Rattle.std.specs.Prelude.{slice_get}
 use Rattle.std.specs.Str.{bytes_eq}
 use Rattle.std.proofs.lemmas.List.{at_drop_all, append-nil}
@@ -6,7 +6,7 @@ use Rattle.link_input.specs.declared.object.ObjectTable.{ObjectTable}
 use Rattle.link_input.specs.ObjectFile.{ObjectFile}
 use Rattle.link_rules.specs.Places.{Bytes}
 use Rattle.link_rules.specs.Comdat.{PlacedGroup, groups_of}
-use Rattle.link_comdat.specs.InOrder.{is_met, met_with, is_comdat_of, is_kept_after, kept_in_order}
+use Rattle.link_comdat.specs.InOrder.{is_met, met_with, is_kept_after, kept_in_order}
 use Rattle.link_comdat.proofs.Placed.{placed-in, met-one, met-step, kept-order-step, length-groups_of}
 use Rattle.link_comdat.proofs.Truth.{or-false}
 use Rattle.link_comdat.proofs.signatures.kept_groups.Goals as goal

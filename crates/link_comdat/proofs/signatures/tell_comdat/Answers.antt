@@ -1,10 +1,9 @@
-use Rattle.std.proofs.Common.{◌≡◌, ◌&&◌, ◌∙◌, ap, sym, ℕ, Bool, true, false, Some, option_map, refl, arith}
+use Rattle.std.proofs.Common.{◌≡◌, ◌&&◌, ◌∙◌, ap, ℕ, Bool, true, false, Some, option_map, arith}
 use Rattle.std.specs.Prelude.{slice_get}
 use Rattle.std.proofs.lemmas.Option.{same_Some}
 use Rattle.link_input.specs.declared.object.SectionGroup.{SectionGroup}
-use Rattle.link_input.specs.declared.object.ObjectTable.{ObjectTable}
 use Rattle.link_input.specs.ObjectFile.{ObjectFile}
-use Rattle.link_rules.specs.Comdat.{PlacedGroup, groups_of}
+use Rattle.link_rules.specs.Comdat.{groups_of}
 use Rattle.link_comdat.proofs.Placed.{group-of, told-nothing, told-one}
 use Rattle.link_comdat.proofs.signatures.tell_comdat.Goals as goal
 

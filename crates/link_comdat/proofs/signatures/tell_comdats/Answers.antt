@@ -1,9 +1,6 @@
-use Rattle.std.proofs.Common.{◌≡◌, ◌<◌, ◌≤◌, ◌+◌, ◌++◌, ◌∷◌, ◌∙◌, ap, sym, ℕ, List, Bool, false, [], length, get_or, drop, Some, arith}
-use Rattle.std.specs.Prelude.{slice_get, IfSome}
+use Rattle.std.proofs.Common.{◌<◌, ◌∙◌, false, length, get_or, arith}
 use Rattle.std.proofs.lemmas.Option.{slice_get-get_or}
-use Rattle.link_rules.specs.declared.linked.KeptGroup.{KeptGroup}
-use Rattle.link_rules.specs.Comdat.{PlacedGroup, groups_of}
-use Rattle.link_comdat.specs.InOrder.{comdats_told}
+use Rattle.link_rules.specs.Comdat.{groups_of}
 use Rattle.link_comdat.proofs.Placed.{told-turn, told-end, length-groups_of}
 use Rattle.link_comdat.proofs.signatures.tell_comdats.Goals as goal
 

@@ -1,5 +1,4 @@
 use Rattle.std.proofs.Common.{◌≡◌, ◌∙◌, ap, sym, ℕ, Some}
-use Rattle.link_input.specs.declared.object.ObjectTable.{ObjectTable}
 use Rattle.link_input.specs.ObjectFile.{ObjectFile}
 use Rattle.link_rules.specs.declared.linked.KeptGroup.{KeptGroup}
 use Rattle.link_rules.specs.Places.{Bytes}

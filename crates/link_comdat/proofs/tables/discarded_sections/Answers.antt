@@ -1,4 +1,4 @@
-use Rattle.std.proofs.Common.{◌≡◌, ◌∙◌, sym, ap, true, false, List, Bool}
+use Rattle.std.proofs.Common.{◌≡◌, ◌∙◌, sym, ap, true, List, Bool}
 use Rattle.std.specs.List.{list_all}
 use Rattle.link_closure.specs.Closure.{is_marked}
 use Rattle.link_comdat.proofs.Marks.{lost-none}

@@ -1,4 +1,4 @@
-use Rattle.std.proofs.Common.{◌≡◌, ◌<◌, ◌||◌, ◌∙◌, ℕ, sym, ap, [], length, get_or, drop, arith}
+use Rattle.std.proofs.Common.{◌≡◌, ◌<◌, ◌||◌, ◌∙◌, sym, ap, [], length, get_or, drop, arith}
 use Rattle.std.proofs.lemmas.Grind.{common_steps}
 use Rattle.link_closure.specs.Closure.{is_marked}
 use Rattle.link_rules.specs.Places.{contains}

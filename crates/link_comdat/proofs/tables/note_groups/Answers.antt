@@ -1,4 +1,4 @@
-use Rattle.std.proofs.Common.{◌≡◌, ◌<◌, ◌∙◌, sym, ap, ℕ, None, Some, List, if◌then◌else◌, length, get_or, arith}
+use Rattle.std.proofs.Common.{◌≡◌, ◌∙◌, sym, ap, ℕ, None, Some, List, if◌then◌else◌, length, arith}
 use Rattle.std.specs.Option.{option_or}
 use Rattle.link_rules.specs.Places.{contains}
 use Rattle.link_comdat.specs.Tables.{group_at, is_noted, first_again}

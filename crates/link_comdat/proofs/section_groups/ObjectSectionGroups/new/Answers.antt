@@ -1,4 +1,4 @@
-use Rattle.std.proofs.Common.{◌≡◌, ◌∙◌, sym, ap, map, true, ℕ, List, Bool, length, replicate}
+use Rattle.std.proofs.Common.{◌≡◌, ◌∙◌, ap, map, true, ℕ, List, Bool, replicate}
 use Rattle.link_comdat.specs.ObjectGroups.{ObjectGroups}
 use Rattle.link_comdat.proofs.Keeping.{replicate-map}
 use Rattle.link_comdat.proofs.section_groups.ObjectSectionGroups.new.Goals as goal

@@ -1,4 +1,4 @@
-use Rattle.std.proofs.Common.{◌≡◌, ◌∙◌, sym, ap, map, false, List, Bool, length, replicate, arith}
+use Rattle.std.proofs.Common.{◌≡◌, ◌∙◌, ap, map, false, List, Bool, length, replicate, arith}
 use Rattle.std.proofs.lemmas.List.{with_items_is}
 use Rattle.link_comdat.specs.ObjectGroups.{ObjectGroups}
 use Rattle.link_comdat.proofs.Keeping.{replicate-map}

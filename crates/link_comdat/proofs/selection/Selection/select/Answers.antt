@@ -1,4 +1,4 @@
-use Rattle.std.proofs.Common.{◌≡◌, ◌++◌, ◌+◌, ◌∙◌, ap, List, Bool, drop, map}
+use Rattle.std.proofs.Common.{◌≡◌, ◌++◌, ◌+◌, ◌∙◌, ap, List, drop, map}
 use Rattle.std.specs.List.{flat_map}
 use Rattle.link_rules.specs.declared.linked.KeptGroup.{KeptGroup}
 use Rattle.link_rules.specs.Comdat.{groups_of}
