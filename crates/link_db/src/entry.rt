@@ -1,4 +1,4 @@
-//! The name of the entry point.
+//! The linker scripts of groups, and the name of the entry point that they give.
 
 ghost use Rattle.std.specs.Prelude.{◌≡◌, [], ◌∷◌, filter_map, map, option_map};
 ghost use Rattle.std.specs.Option.{option_or};
@@ -10,7 +10,7 @@ use link_input::Platform;
 use link_names::Name;
 
 /// The linker scripts of a group.
-fn scripts_of<P: Platform>(group: &Group<P>) -> &[SequencedLinkerScript]
+pub fn scripts_of<P: Platform>(group: &Group<P>) -> &[SequencedLinkerScript]
     ensures { map (λ s. s.parsed) result.now ≡ scripts_in (group.now ∷ []) }
 {
     match group {

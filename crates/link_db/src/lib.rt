@@ -22,4 +22,5 @@ mod tests;
 mod wrapping;
 
 pub use database::SymbolDb;
+pub use entry::scripts_of;
 pub use key::SymbolKey;

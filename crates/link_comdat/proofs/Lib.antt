@@ -1,0 +1,13 @@
+pub mod Truth
+pub mod FirstPlace
+pub mod Noting
+pub mod Marks
+pub mod Pending
+pub mod Keeping
+pub mod MetNames
+pub mod Placed
+pub mod FirstMet
+pub mod Rising
+pub mod OneByOne
+pub mod Discarding
+pub mod Visiting

@@ -1,0 +1,5 @@
+pub mod ObjectGroups
+pub mod Tables
+pub mod Selected
+pub mod InOrder
+pub mod Lending

@@ -1,0 +1,5 @@
+pub mod Sources
+pub mod Targets
+pub mod Requests
+pub mod Objects
+pub mod Names

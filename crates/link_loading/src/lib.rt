@@ -1,0 +1,18 @@
+//! Which objects of a link are loaded: what each reference stands for, what is loaded whatever refers to it, and what that asks for.
+#![tactic(auto)]
+
+mod loading;
+mod names;
+mod objects;
+mod requests;
+mod roots;
+mod sources;
+mod targets;
+#[cfg(test)]
+mod tests;
+
+pub use loading::{loaded_objects, request_edges};
+pub use names::root_names;
+pub use roots::root_objects;
+pub use sources::{SymbolSource, symbol_sources};
+pub use targets::reference_targets;
