@@ -19,7 +19,7 @@ use Rattle.link_rules.specs.Places.{same_number}
 use Rattle.link_rules.specs.Undefined.{is_weak_symbol}
 use Rattle.link_loading.specs.Requests.{edge_by, edges_by, request_by, requested}
 use Rattle.link_loading.specs.Sources.{source_of, sources_of}
-use Rattle.link_loading.specs.Targets.{target_at}
+use Rattle.link_symbols.specs.Lookups.{target_at}
 use Rattle.link_loading.proofs.Listed.{same-some, some-from}
 use Rattle.link_loading.proofs.Edges.{edge-ends}
 

@@ -15,7 +15,8 @@ use Rattle.link_rules.proofs.Twice.{slice_get-each_from}
 use Rattle.link_loading.specs.declared.sources.SymbolSource.{SymbolSource}
 use Rattle.link_loading.specs.Requests.{edge_between, edge_by, edges_by, request_by, requested}
 use Rattle.link_loading.specs.Sources.{source_of, sources_of}
-use Rattle.link_loading.specs.Targets.{all_targets, reference_target, target_at}
+use Rattle.link_loading.specs.Targets.{all_targets, reference_target}
+use Rattle.link_symbols.specs.Lookups.{target_at}
 use Rattle.link_loading.proofs.Listed.{from-some, same-some, some-from}
 
 -- an edge leads from the one object to the other

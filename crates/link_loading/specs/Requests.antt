@@ -7,7 +7,7 @@ use Rattle.link_rules.specs.Places.{same_number, some_from}
 use Rattle.link_rules.specs.Undefined.{is_weak_symbol}
 use Rattle.link_loading.specs.declared.sources.SymbolSource.{SymbolSource}
 use Rattle.link_loading.specs.Sources.{source_of}
-use Rattle.link_loading.specs.Targets.{target_at}
+use Rattle.link_symbols.specs.Lookups.{target_at}
 
 -- the object at which a target stands, if it is another one, and not both files are shared
 abbrev pub requested : SymbolSource → SymbolSource → Option ℕ

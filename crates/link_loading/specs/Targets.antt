@@ -1,6 +1,5 @@
 -- What all references of a link stand for.
-use Rattle.std.specs.Prelude.{ℕ, List, Option, None, if◌then◌else◌, slice_get}
-use Rattle.std.specs.Option.{option_map_or}
+use Rattle.std.specs.Prelude.{ℕ, List, Option, None, if◌then◌else◌}
 use Rattle.link_input.specs.Symbols.{Symbol}
 use Rattle.link_rules.specs.Places.{each_from}
 use Rattle.link_rules.specs.Targets.{kept_target}
@@ -13,7 +12,3 @@ reference_target w s x = if is_reference x then kept_target w s x else None
 -- the same of each symbol, whether its object is loaded or not
 abbrev pub all_targets : Stage → List (Option ℕ)
 all_targets w = each_from (reference_target w) 0 w.symbols
-
--- the target that a list has for the symbol of this id
-abbrev pub target_at : List (Option ℕ) → ℕ → Option ℕ
-target_at targets s = option_map_or (λ t. t) (slice_get targets s) None

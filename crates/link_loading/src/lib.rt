@@ -12,7 +12,8 @@ mod targets;
 mod tests;
 
 pub use loading::{loaded_objects, request_edges};
-pub use names::root_names;
+pub use names::{referred_names, root_names};
+pub use objects::objects_of;
 pub use roots::root_objects;
 pub use sources::{SymbolSource, symbol_sources};
 pub use targets::reference_targets;

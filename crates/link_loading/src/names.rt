@@ -146,3 +146,17 @@ pub fn root_names<'a, P: Platform>(
     push_redirect_targets(&mut names, db.options(), db.groups())?;
     Ok(names)
 }
+
+/// The names that a link itself refers to: the entry, and those that redirects refer to. The only refusal is want of memory.
+pub fn referred_names<'a, P: Platform>(
+    alloc: Global,
+    db: &'a SymbolDb<P>,
+) -> Result<Vec<NameView<'a>>, AllocError>
+    ensures { IfOk result (λ names. (demangle : Bytes → Bytes) (w : Stage) → IsAtStage (platform_of P.Platform) demangle (seen db.now) w
+        → names.items ≡ option_to_list (entry_name w) ++ redirect_targets w) }
+{
+    let mut names = Vec::new(alloc);
+    push_entry(&mut names, db)?;
+    push_redirect_targets(&mut names, db.options(), db.groups())?;
+    Ok(names)
+}

@@ -10,8 +10,8 @@ use link_groups::{Group, SequencedInputObject};
 use link_input::Platform;
 use std::alloc::{AllocError, Global};
 
-/// The objects of a group.
-fn objects_of<P: Platform>(group: &Group<P>) -> &[SequencedInputObject<P>]
+/// The objects of a group; another group has none.
+pub fn objects_of<P: Platform>(group: &Group<P>) -> &[SequencedInputObject<P>]
     ensures { map (λ o. o.parsed) result.now ≡ objects_in (group.now ∷ []) }
 {
     match group {

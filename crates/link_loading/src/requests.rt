@@ -5,12 +5,11 @@ ghost use Rattle.link_files.specs.GroupFiles.{symbols_in};
 ghost use Rattle.link_loading.specs.Requests.{edge_by, edges_by, request_by, requested};
 
 use crate::sources::{SymbolSource, source_of};
-use crate::targets::target_at;
 use link_closure::Edge;
 use link_files::Files;
 use link_ids::SymbolId;
 use link_input::Platform;
-use link_symbols::{SymbolView, symbols};
+use link_symbols::{SymbolView, symbols, target_of};
 use std::alloc::{AllocError, Global};
 
 /// The object at which a target stands, if it is another one, and not both files are shared.
@@ -59,7 +58,7 @@ pub fn listed_requests<P: Platform>(
 {
     let mut edges = Vec::new(alloc);
     for (id, symbol) in symbols(files) {
-        if let Some(edge) = edge_by(sources, &symbol, target_at(targets, id)) {
+        if let Some(edge) = edge_by(sources, &symbol, target_of(targets, id)) {
             edges.push(edge)?;
         }
     }

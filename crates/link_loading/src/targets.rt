@@ -7,23 +7,13 @@ ghost use Rattle.link_rules.specs.Targets.{target};
 ghost use Rattle.link_rules.specs.World.{Stage};
 ghost use Rattle.link_db.specs.Seen.{seen};
 ghost use Rattle.link_stage.specs.AtStage.{IsAtStage};
-ghost use Rattle.link_loading.specs.Targets.{all_targets, reference_target, target_at};
+ghost use Rattle.link_loading.specs.Targets.{all_targets, reference_target};
 
 use link_db::{SymbolDb, SymbolKey};
 use link_ids::SymbolId;
 use link_input::Platform;
-use link_symbols::{SymbolView, symbols};
+use link_symbols::{SymbolView, symbols, target_of};
 use std::alloc::{AllocError, Global};
-
-/// The target that a list has for the symbol of this id.
-pub fn target_at(targets: &[Option<SymbolId>], id: SymbolId) -> Option<SymbolId>
-    ensures { result ≡ target_at targets.now id }
-{
-    match targets.get(id.as_usize()) {
-        Some(target) => *target,
-        None => None,
-    }
-}
 
 /// By what a reference is looked up: its name, and its version where it has one.
 fn key_of<'a>(symbol: &SymbolView<'a>) -> SymbolKey<'a>
@@ -57,7 +47,7 @@ fn reference_target<P: Platform>(
     if !symbol.is_reference() {
         return None;
     }
-    match target_at(earlier, id) {
+    match target_of(earlier, id) {
         Some(target) => Some(target),
         None => looked_up(db, symbol),
     }

@@ -29,7 +29,10 @@ fn columns(alloc: Global, files: &Files<MachLike>) -> Result<String, AllocError>
     let held = held_symbols(alloc, files, &[])?;
     let targets = loaded_targets(alloc, files, &[], &[None])?;
     let places = object_places(alloc, files)?;
-    format!(in alloc; "{dynamic:?} {visibilities:?} {held:?} {} {places:?}", targets.len())
+    format!(in alloc;
+        "{dynamic:?} {visibilities:?} {held:?} {} {places:?}",
+        targets.len()
+    )
 }
 
 #[test]

@@ -76,7 +76,7 @@ versioned-behind w s x version at = by (is_version_listed x) refl
         cc)
 
 -- the name of a symbol among all names
-name-at : (xs : List Symbol) (added : List Bytes) (s : ℕ) → added ≡ [] → slice_get (map (λ x. x.name) xs ++ added) s ≡ option_map_or (λ x. Some x.name) (slice_get xs s) None
+pub name-at : (xs : List Symbol) (added : List Bytes) (s : ℕ) → added ≡ [] → slice_get (map (λ x. x.name) xs ++ added) s ≡ option_map_or (λ x. Some x.name) (slice_get xs s) None
 name-at xs added s none = ap (λ more. slice_get (map (λ x. x.name) xs ++ more) s) none ∙ ap (λ names. slice_get names s) (append-nil (map (λ x. x.name) xs)) ∙ mapped xs s
   where
     mapped : (xs : List Symbol) (s : ℕ) → slice_get (map (λ x. x.name) xs) s ≡ option_map_or (λ x. Some x.name) (slice_get xs s) None

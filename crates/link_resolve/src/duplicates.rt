@@ -1,6 +1,6 @@
 //! The lines of names of which two strong definitions are left.
 
-ghost use Rattle.std.specs.Prelude.{◌≡◌, ◌++◌, [], ◌∷◌, All, IfOk, OnOk, codes, length, map, slice_get};
+ghost use Rattle.std.specs.Prelude.{◌≡◌, ◌++◌, [], All, IfOk, OnOk, codes, length, map, slice_get};
 ghost use Rattle.std.specs.Option.{option_and_then, option_map_or};
 ghost use Rattle.link_names.specs.NameText.{name_text};
 ghost use Rattle.link_files.specs.GroupFiles.{symbols_in};
@@ -19,21 +19,12 @@ use link_db::SymbolDb;
 use link_groups::{Group, SequencedInputObject};
 use link_ids::SymbolId;
 use link_input::Platform;
+use link_loading::objects_of;
 use link_marking::object_places;
 use link_names::{Name, NameView, Seq};
 use link_rivals::Clash;
 use link_rules::LinkError;
 use std::alloc::{AllocError, Global};
-
-/// The objects of a group.
-fn objects_of<P: Platform>(group: &Group<P>) -> &[SequencedInputObject<P>]
-    ensures { map (λ o. o.parsed) result.now ≡ objects_in (group.now ∷ []) }
-{
-    match group {
-        Group::Objects(objects) => objects.as_slice(),
-        _ => &[],
-    }
-}
 
 /// Adds the names of the files of objects.
 fn push_file_names<'a, P: Platform>(
@@ -124,6 +115,27 @@ fn duplicate_line(
     Ok(Name::new(line))
 }
 
+/// The line of a clash.
+fn clash_line<P: Platform>(
+    alloc: Global,
+    db: &SymbolDb<P>,
+    names: &[NameView],
+    places: &[Option<usize>],
+    clash: &Clash,
+) -> Result<Name, AllocError>
+    requires listed { IsListed (seen db.now) }
+    requires inside { IsInside (length (symbol_names (seen db.now))) clash.now }
+    ensures { IfOk result (λ line. (w : Stage) → w.symbols ≡ symbols_in (seen db.now).mapping.files.groups
+        → names.now ≡ map (λ o. o.input) w.objects → places.now ≡ map (λ x. object_in x.origin) w.symbols
+        → line ≡ clash_line w clash.now) }
+{
+    let name = db.symbol_name(clash.head);
+    let first = file_name(names, places, clash.first);
+    let second = file_name(names, places, clash.second);
+    let line = duplicate_line(alloc, &name, &first, &second)?;
+    Ok(line)
+}
+
 /// Adds the lines of clashes.
 fn push_lines<P: Platform>(
     alloc: Global,
@@ -140,10 +152,7 @@ fn push_lines<P: Platform>(
         → lines.new.items ≡ lines.old.items ++ map (clash_line w) clashes.now) }
 {
     for clash in clashes {
-        let name = db.symbol_name(clash.head);
-        let first = file_name(names, places, clash.first);
-        let second = file_name(names, places, clash.second);
-        lines.push(duplicate_line(alloc, &name, &first, &second)?)?;
+        lines.push(clash_line(alloc, db, names, places, clash)?)?;
     }
     Ok(())
 }

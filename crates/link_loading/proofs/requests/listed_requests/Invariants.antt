@@ -2,7 +2,7 @@ use Rattle.std.proofs.Common.{◌≡◌, ◌++◌}
 use Rattle.link_files.specs.GroupFiles.{symbols_in}
 use Rattle.link_rules.specs.Places.{some_from}
 use Rattle.link_loading.specs.Requests.{edge_by, edges_by}
-use Rattle.link_loading.specs.Targets.{target_at}
+use Rattle.link_symbols.specs.Lookups.{target_at}
 use Rattle.link_loading.proofs.requests.listed_requests.Given as goal
 
 -- the edges so far, and those that are left

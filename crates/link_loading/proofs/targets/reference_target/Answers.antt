@@ -12,6 +12,6 @@ returns-in-None g c = λ demangle w at earlier.
     let x = c.args.symbol.now in
     let asked : is_reference x ≡ true = search rules in
     let none : earlier_target w id ≡ None =
-    ap (λ (ts : List (Option ℕ)). option_map_or (λ (t : Option ℕ). t) (slice_get ts id) None) earlier ∙ (sym c.target_at.ensures ∙ c.in-None.is) in
+    ap (λ (ts : List (Option ℕ)). option_map_or (λ (t : Option ℕ). t) (slice_get ts id) None) earlier ∙ (sym c.target_of.ensures ∙ c.in-None.is) in
     c.looked_up.ensures demangle w at
     ∙ sym (ap (λ (b : Bool). cond b (kept_target w id x) None) asked ∙ ap (λ (o : Option ℕ). option_or o (target w x)) none)

@@ -1,0 +1,30 @@
+use Rattle.std.proofs.Common.{◌∙◌, List, ap, length, map, subst, sym}
+use Rattle.link_files.specs.GroupFiles.{symbols_in}
+use Rattle.link_input.specs.Symbols.{Symbol}
+use Rattle.link_loader.specs.Holds.{platform_of}
+use Rattle.link_rivals.proofs.Tables.{versioned-lines, versioned-settled}
+use Rattle.link_rivals.specs.Lists.{AreLists}
+use Rattle.link_rivals.specs.Settled.{clash_line, clashes, settled_table}
+use Rattle.link_db.specs.Seen.{seen}
+use Rattle.link_resolve.proofs.Behind.{versioned-are}
+use Rattle.link_resolve.specs.Lists.{versioned_rivals}
+use Rattle.link_resolve.proofs.rivals.settle_versioned.Goals as goal
+
+pub settle-requires-lists : goal.settle-requires-lists
+settle-requires-lists g c =
+    let symbols = symbols_in (seen c.args.db.now).mapping.files.groups in
+    subst (AreLists (versioned_rivals symbols)) (sym c.requires.count) (versioned-are (platform_of g.P.Platform) (seen c.args.db.now).options symbols)
+
+pub returns-clause-table : goal.returns-clause-table
+returns-clause-table g c = λ l tells symbols before.
+    c.settle.ensures.table l tells
+    ∙ ap (λ (xs : List Symbol). settled_table l (versioned_rivals xs) c.args.table.now) (sym symbols)
+    ∙ ap (settled_table l (versioned_rivals l.stage.symbols)) before
+    ∙ versioned-settled l
+
+pub returns-clause-clashes : goal.returns-clause-clashes
+returns-clause-clashes g c = λ told l tells symbols before.
+    ap (map (clash_line l.stage)) (c.settle.ensures.clashes told l tells
+    ∙ ap (λ (xs : List Symbol). clashes l (versioned_rivals xs) c.args.table.now) (sym symbols)
+    ∙ ap (clashes l (versioned_rivals l.stage.symbols)) before)
+    ∙ versioned-lines l
