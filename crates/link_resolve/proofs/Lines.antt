@@ -45,3 +45,12 @@ line-is w c name first second line is named at_first at_second =
     is ∙ ap (λ n. name_text n ++ codes ", defined in " ++ name_text first ++ codes " and " ++ name_text second) (sym named)
     ∙ ap (λ f. name_text (name_at w c.head) ++ codes ", defined in " ++ name_text f ++ codes " and " ++ name_text second) at_first
     ∙ ap (λ f. name_text (name_at w c.head) ++ codes ", defined in " ++ name_text (file_name w c.first) ++ codes " and " ++ name_text f) at_second
+
+-- the line of one clash more
+pub line-more : (w : Stage) (clashes : List Clash) (i : ℕ) (c : Clash) (old new : List Bytes) (line : Bytes) (all : List Bytes)
+    → i < length clashes → c ≡ get_or clashes i c → line ≡ clash_line w c → new ≡ old ++ line ∷ []
+    → old ++ map (clash_line w) (drop i clashes) ≡ all → new ++ map (clash_line w) (drop (i + 1) clashes) ≡ all
+line-more w clashes i c old new line all lt is told more before =
+    let rest = map (clash_line w) (drop (i + 1) clashes) in
+    ap (λ lines. lines ++ rest) (more ∙ ap (λ l. old ++ l ∷ []) told) ∙ append_assoc old (clash_line w c ∷ []) rest
+    ∙ sym (ap (λ (cs : List Clash). old ++ map (clash_line w) cs) (rest_is clashes i c lt is)) ∙ before

@@ -157,6 +157,14 @@ fn push_lines<P: Platform>(
     Ok(())
 }
 
+/// Sorts lines by their bytes.
+fn sort_lines(lines: &mut Vec<Name>) -> Result<(), AllocError>
+    ensures { OnOk result (lines.new.items ≡ sorted_texts lines.old.items) }
+{
+    lines.sort()?;
+    Ok(())
+}
+
 /// The lines of the clashes of plain names and of names with versions, in the order of their bytes.
 fn duplicate_lines<P: Platform>(
     alloc: Global,
@@ -176,7 +184,7 @@ fn duplicate_lines<P: Platform>(
     let mut lines = Vec::new(alloc);
     push_lines(alloc, db, &names, &places, plain, &mut lines)?;
     push_lines(alloc, db, &names, &places, versioned, &mut lines)?;
-    lines.sort()?;
+    sort_lines(&mut lines)?;
     Ok(lines)
 }
 

@@ -52,7 +52,8 @@ fn settle_plain<P: Platform>(
     ensures len { length table.new ≡ length table.old }
     ensures told { IfOk result (λ told. All (IsInside (length table.old)) told.items) }
 {
-    settle(alloc, survivors, &PlainLists { db }, table)
+    let clashes = settle(alloc, survivors, &PlainLists { db }, table)?;
+    Ok(clashes)
 }
 
 /// Settles the definitions of names with versions, over what plain names are settled to.
@@ -75,7 +76,45 @@ fn settle_versioned<P: Platform>(
     ensures len { length table.new ≡ length table.old }
     ensures told { IfOk result (λ told. All (IsInside (length table.old)) told.items) }
 {
-    settle(alloc, survivors, &VersionedLists { db }, table)
+    let clashes = settle(alloc, survivors, &VersionedLists { db }, table)?;
+    Ok(clashes)
+}
+
+/// Settles the definitions of plain names, and then those of names with versions, over what references give. The answer is the clashes of both.
+fn settle_names<P: Platform>(
+    alloc: Global,
+    db: &SymbolDb<P>,
+    resolved: &Resolved,
+    dynamic: &[bool],
+    table: &mut [SymbolId],
+) -> Result<(Vec<Clash>, Vec<Clash>), AllocError>
+    requires listed { IsListed (seen db.now) }
+    requires dynamic { dynamic.now ≡ map (λ x. is_shared x.origin) (symbols_in (seen db.now).mapping.files.groups) }
+    requires count { length table.old ≡ length (symbols_in (seen db.now).mapping.files.groups) }
+    requires known { length resolved.now.strengths ≡ length (symbols_in (seen db.now).mapping.files.groups) }
+    requires inside { All (λ t. t < length table.old) table.old }
+    requires numbers { length table.old ≤ 2 ^ 32 }
+    ensures table { OnOk result ((demangle : Bytes → Bytes) (l : Selection) → IsSelection (platform_of P.Platform) demangle (seen db.now) resolved.now l
+        → table.old ≡ reference_table l → table.new ≡ versioned_table l) }
+    ensures plain { IfOk result (λ told. (demangle : Bytes → Bytes) (l : Selection) → IsSelection (platform_of P.Platform) demangle (seen db.now) resolved.now l
+        → table.old ≡ reference_table l → map (clash_line l.stage) told.0.items ≡ plain_duplicates l) }
+    ensures versioned { IfOk result (λ told. (demangle : Bytes → Bytes) (l : Selection) → IsSelection (platform_of P.Platform) demangle (seen db.now) resolved.now l
+        → table.old ≡ reference_table l → map (clash_line l.stage) told.1.items ≡ versioned_duplicates l (plain_table l)) }
+    ensures inside { All (λ t. t < length table.new) table.new }
+    ensures told_plain { IfOk result (λ told. All (IsInside (length table.old)) told.0.items) }
+    ensures told_versioned { IfOk result (λ told. All (IsInside (length table.old)) told.1.items) }
+{
+    let held = held_symbols(alloc, db.files(), resolved.loaded())?;
+    let survivors = Survivors {
+        strengths: resolved.strengths(),
+        dynamic,
+        held: held.as_slice(),
+        weak_overrides_common: P::WEAK_SYMBOLS_OVERRIDE_COMMON,
+        allow_multiple: db.options().allow_multiple,
+    };
+    let plain = settle_plain(alloc, db, &survivors, table)?;
+    let versioned = settle_versioned(alloc, db, &survivors, table)?;
+    Ok((plain, versioned))
 }
 
 /// Makes each symbol as visible as the strictest of its name, and of its name and version.
@@ -126,18 +165,15 @@ pub fn resolve_alternative_symbol_definitions<P: Platform>(
     ensures err { OnErr result (words_of flags.new ≡ words_of flags.old) }
 {
     let dynamic = dynamic_symbols(alloc, db.files())?;
-    let held = held_symbols(alloc, db.files(), resolved.loaded())?;
     let visibilities = visibilities(alloc, db.files())?;
-    let survivors = Survivors {
-        strengths: resolved.strengths(),
-        dynamic: dynamic.as_slice(),
-        held: held.as_slice(),
-        weak_overrides_common: P::WEAK_SYMBOLS_OVERRIDE_COMMON,
-        allow_multiple: db.options().allow_multiple,
-    };
     let mut table = db.take_definitions();
-    let plain = settle_plain(alloc, &db, &survivors, table.as_mut_slice())?;
-    let versioned = settle_versioned(alloc, &db, &survivors, table.as_mut_slice())?;
+    let (plain, versioned) = settle_names(
+        alloc,
+        &db,
+        resolved,
+        dynamic.as_slice(),
+        table.as_mut_slice(),
+    )?;
     db.restore_definitions(table);
     refuse_duplicates(alloc, &db, plain.as_slice(), versioned.as_slice())?;
     narrow_names(&db, visibilities.as_slice(), dynamic.as_slice(), flags);

@@ -10,21 +10,21 @@ use Rattle.link_resolve.proofs.Behind.{versioned-are}
 use Rattle.link_resolve.specs.Lists.{versioned_rivals}
 use Rattle.link_resolve.proofs.rivals.settle_versioned.Goals as goal
 
-pub settle-requires-lists : goal.settle-requires-lists
-settle-requires-lists g c =
+pub settle-requires-clause-lists : goal.settle-requires-clause-lists
+settle-requires-clause-lists g c =
     let symbols = symbols_in (seen c.args.db.now).mapping.files.groups in
     subst (AreLists (versioned_rivals symbols)) (sym c.requires.count) (versioned-are (platform_of g.P.Platform) (seen c.args.db.now).options symbols)
 
 pub returns-clause-table : goal.returns-clause-table
 returns-clause-table g c = λ l tells symbols before.
-    c.settle.ensures.table l tells
+    c.in_ok-clashes.ensures.table l tells
     ∙ ap (λ (xs : List Symbol). settled_table l (versioned_rivals xs) c.args.table.now) (sym symbols)
     ∙ ap (settled_table l (versioned_rivals l.stage.symbols)) before
     ∙ versioned-settled l
 
 pub returns-clause-clashes : goal.returns-clause-clashes
-returns-clause-clashes g c = λ told l tells symbols before.
-    ap (map (clash_line l.stage)) (c.settle.ensures.clashes told l tells
+returns-clause-clashes g c = λ l tells symbols before.
+    ap (map (clash_line l.stage)) (c.in_ok-clashes.ensures.clashes l tells
     ∙ ap (λ (xs : List Symbol). clashes l (versioned_rivals xs) c.args.table.now) (sym symbols)
     ∙ ap (clashes l (versioned_rivals l.stage.symbols)) before)
     ∙ versioned-lines l
