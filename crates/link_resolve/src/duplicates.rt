@@ -74,11 +74,7 @@ fn object_at(places: &[Option<usize>], id: SymbolId) -> Option<usize>
 }
 
 /// The name of the file of a symbol; empty where no object holds it.
-fn file_name<'a>(
-    names: &[NameView<'a>],
-    places: &[Option<usize>],
-    id: SymbolId,
-) -> NameView<'a>
+fn file_name<'a>(names: &[NameView<'a>], places: &[Option<usize>], id: SymbolId) -> NameView<'a>
     ensures { (w : Stage) → names.now ≡ map (λ o. o.input) w.objects → places.now ≡ map (λ x. object_in x.origin) w.symbols
         → result ≡ file_name w id }
 {

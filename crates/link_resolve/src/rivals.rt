@@ -16,7 +16,7 @@ ghost use Rattle.link_rules.specs.Selection.{Selection};
 ghost use Rattle.link_rules.specs.Sorting.{sorted_texts};
 ghost use Rattle.link_rules.specs.Visibility.{narrowed_symbol};
 ghost use Rattle.link_rules.specs.World.{Stage};
-ghost use Rattle.link_db.specs.Database.{HasTable};
+ghost use Rattle.link_db.specs.Database.{HasTable, symbol_names};
 ghost use Rattle.link_db.specs.Seen.{seen};
 ghost use Rattle.link_resolve.specs.Known.{IsListed, IsSelection};
 
@@ -117,6 +117,36 @@ fn settle_names<P: Platform>(
     Ok((plain, versioned))
 }
 
+/// Settles names in the table of the database. The answer is the clashes of plain names, and of names with versions. The only refusal is want of
+/// memory; then the table is gone.
+fn settle_table<P: Platform>(
+    alloc: Global,
+    db: &mut SymbolDb<P>,
+    resolved: &Resolved,
+    dynamic: &[bool],
+) -> Result<(Vec<Clash>, Vec<Clash>), AllocError>
+    requires listed { IsListed (seen db.old) }
+    requires table { HasTable (seen db.old) }
+    requires dynamic { dynamic.now ≡ map (λ x. is_shared x.origin) (symbols_in (seen db.old).mapping.files.groups) }
+    requires known { length resolved.now.strengths ≡ length (symbols_in (seen db.old).mapping.files.groups) }
+    ensures table { OnOk result ((demangle : Bytes → Bytes) (l : Selection) → IsSelection (platform_of P.Platform) demangle (seen db.old) resolved.now l
+        → (seen db.old).table ≡ reference_table l → (seen db.new).table ≡ versioned_table l) }
+    ensures plain { IfOk result (λ told. (demangle : Bytes → Bytes) (l : Selection) → IsSelection (platform_of P.Platform) demangle (seen db.old) resolved.now l
+        → (seen db.old).table ≡ reference_table l → map (clash_line l.stage) told.0.items ≡ plain_duplicates l) }
+    ensures versioned { IfOk result (λ told. (demangle : Bytes → Bytes) (l : Selection) → IsSelection (platform_of P.Platform) demangle (seen db.old) resolved.now l
+        → (seen db.old).table ≡ reference_table l → map (clash_line l.stage) told.1.items ≡ versioned_duplicates l (plain_table l)) }
+    ensures rest { OnOk result (seen db.new ≡ record (seen db.old) { table = (seen db.new).table }) }
+    ensures whole { OnOk result (HasTable (seen db.new)) }
+    ensures told_plain { IfOk result (λ told. All (IsInside (length (symbol_names (seen db.old)))) told.0.items) }
+    ensures told_versioned { IfOk result (λ told. All (IsInside (length (symbol_names (seen db.old)))) told.1.items) }
+{
+    let _numbers = db.num_symbols();
+    let mut table = db.take_definitions();
+    let (plain, versioned) = settle_names(alloc, db, resolved, dynamic, table.as_mut_slice())?;
+    db.restore_definitions(table);
+    Ok((plain, versioned))
+}
+
 /// Makes each symbol as visible as the strictest of its name, and of its name and version.
 fn narrow_names<P: Platform>(
     db: &SymbolDb<P>,
@@ -135,6 +165,44 @@ fn narrow_names<P: Platform>(
 {
     narrow(&PlainLists { db }, visibilities, dynamic, flags);
     narrow(&VersionedLists { db }, visibilities, dynamic, flags);
+}
+
+/// Settles rivals in a database, and makes their symbols as visible as the strictest.
+fn settle_rivals<P: Platform>(
+    alloc: Global,
+    db: &mut SymbolDb<P>,
+    flags: &mut PerSymbolFlags,
+    resolved: &Resolved,
+) -> Result<(), LinkError>
+    requires listed { IsListed (seen db.old) }
+    requires table { HasTable (seen db.old) }
+    requires known { length resolved.now.strengths ≡ length (symbols_in (seen db.old).mapping.files.groups) }
+    requires flags { length (words_of flags.old) ≡ length (symbols_in (seen db.old).mapping.files.groups) }
+    ensures cause { (demangle : Bytes → Bytes) (l : Selection) → IsSelection (platform_of P.Platform) demangle (seen db.old) resolved.now l
+        → (seen db.old).table ≡ reference_table l → TellsCause (unless_none (duplicate_lines l)) result }
+    ensures table { OnOk result ((demangle : Bytes → Bytes) (l : Selection) → IsSelection (platform_of P.Platform) demangle (seen db.old) resolved.now l
+        → (seen db.old).table ≡ reference_table l → (seen db.new).table ≡ versioned_table l) }
+    ensures flags { OnOk result ((w : Stage) → w.symbols ≡ symbols_in (seen db.old).mapping.files.groups
+        → numbers_of (words_of flags.new) ≡ each_from (narrowed_symbol w (numbers_of (words_of flags.old))) 0 w.symbols) }
+    ensures rest { OnOk result (seen db.new ≡ record (seen db.old) {
+      table = (seen db.new).table;
+      mapping = record (seen db.old).mapping { lists = λ key. take 1 ((seen db.old).mapping.lists key) };
+    }) }
+    ensures whole { OnOk result (HasTable (seen db.new)) }
+    ensures err { OnErr result (words_of flags.new ≡ words_of flags.old) }
+{
+    let _numbers = db.num_symbols();
+    let dynamic = dynamic_symbols(alloc, db.files())?;
+    let visibilities = visibilities(alloc, db.files())?;
+    let (plain, versioned) = settle_table(alloc, db, resolved, dynamic.as_slice())?;
+    match refuse_duplicates(alloc, db, plain.as_slice(), versioned.as_slice()) {
+        Err(error) => Err(error),
+        Ok(()) => {
+            narrow_names(db, visibilities.as_slice(), dynamic.as_slice(), flags);
+            db.release_alternatives();
+            Ok(())
+        }
+    }
 }
 
 /// Settles which of several definitions of a name counts, now that it is known which objects are loaded. Where two or more symbols define a name, or a
@@ -159,24 +227,15 @@ pub fn resolve_alternative_symbol_definitions<P: Platform>(
         → (seen db).table ≡ reference_table l → (seen left).table ≡ versioned_table l) }
     ensures flags { OnOk result ((w : Stage) → w.symbols ≡ symbols_in (seen db).mapping.files.groups
         → numbers_of (words_of flags.new) ≡ each_from (narrowed_symbol w (numbers_of (words_of flags.old))) 0 w.symbols) }
-    ensures rest { IfOk result (λ left. seen left ≡ record (seen db) { table = (seen left).table;
-        mapping = record (seen db).mapping { lists = λ key. take 1 ((seen db).mapping.lists key) } }) }
+    ensures rest { IfOk result (λ left. seen left ≡ record (seen db) {
+      table = (seen left).table;
+      mapping = record (seen db).mapping { lists = λ key. take 1 ((seen db).mapping.lists key) };
+    }) }
     ensures whole { IfOk result (λ left. HasTable (seen left)) }
     ensures err { OnErr result (words_of flags.new ≡ words_of flags.old) }
 {
-    let dynamic = dynamic_symbols(alloc, db.files())?;
-    let visibilities = visibilities(alloc, db.files())?;
-    let mut table = db.take_definitions();
-    let (plain, versioned) = settle_names(
-        alloc,
-        &db,
-        resolved,
-        dynamic.as_slice(),
-        table.as_mut_slice(),
-    )?;
-    db.restore_definitions(table);
-    refuse_duplicates(alloc, &db, plain.as_slice(), versioned.as_slice())?;
-    narrow_names(&db, visibilities.as_slice(), dynamic.as_slice(), flags);
-    db.release_alternatives();
-    Ok(db)
+    match settle_rivals(alloc, &mut db, flags, resolved) {
+        Ok(()) => Ok(db),
+        Err(error) => Err(error),
+    }
 }
