@@ -19,10 +19,7 @@ use std::alloc::{AllocError, Global};
 pub fn target_at(targets: &[Option<SymbolId>], id: SymbolId) -> Option<SymbolId>
     ensures { result ≡ target_at targets.now id }
 {
-    match targets.get(id.as_usize()) {
-        Some(target) => *target,
-        None => None,
-    }
+    targets.get(id.as_usize()).copied().flatten()
 }
 
 /// By what a reference is looked up: its name, and its version where it has one.
