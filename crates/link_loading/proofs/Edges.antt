@@ -1,6 +1,6 @@
 -- The edges that are listed by targets and sources are those of the definition of loading.
-use Rattle.std.proofs.Common.{◌≡◌, ℕ, ◌+◌, ◌∙◌, List, Bool, true, false, cond, Option, Some, None, refl, sym, ap, subst, arith}
-use Rattle.std.specs.Prelude.{◌&&◌, ◌||◌, not, if◌then◌else◌, slice_get, option_map}
+use Rattle.std.proofs.Common.{◌≡◌, ℕ, ◌+◌, ◌∙◌, Bool, true, false, cond, Option, Some, None, refl, sym, ap, arith}
+use Rattle.std.specs.Prelude.{◌&&◌, ◌||◌, not, slice_get, option_map}
 use Rattle.std.specs.Option.{option_and_then, option_map_or}
 use Rattle.std.proofs.lemmas.Option.{slice_get-map}
 use Rattle.link_closure.specs.declared.Edge.{Edge}
@@ -12,7 +12,6 @@ use Rattle.link_rules.specs.Loading.{HasEdge, request_between, request_of}
 use Rattle.link_rules.specs.Undefined.{is_weak_symbol}
 use Rattle.link_rules.specs.World.{Stage, is_reference}
 use Rattle.link_rules.proofs.Twice.{slice_get-each_from}
-use Rattle.link_loading.specs.declared.sources.SymbolSource.{SymbolSource}
 use Rattle.link_loading.specs.Requests.{edge_between, edge_by, edges_by, request_by, requested}
 use Rattle.link_loading.specs.Sources.{source_of, sources_of}
 use Rattle.link_loading.specs.Targets.{all_targets, reference_target}

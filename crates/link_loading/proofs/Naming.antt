@@ -52,7 +52,7 @@ prelude-targets options =
     (flat_map-append of own options.defsym ∙ ap (λ (l : List Bytes). l ++ targets_in options.defsym) (no-targets options.force_undefined))
 
 -- what all redirects refer to: those of the prelude, and those of the linker scripts
-pub redirect-parts : (w : Stage) → redirect_targets w ≡ (targets_in w.options.linker_symbols ++ targets_in w.options.defsym) ++ script_targets w.scripts
+redirect-parts : (w : Stage) → redirect_targets w ≡ (targets_in w.options.linker_symbols ++ targets_in w.options.defsym) ++ script_targets w.scripts
 redirect-parts w =
     flat_map-append (λ (d : InternalSymDefInfo). targets_of_placement d.placement) (prelude_symbols w.options) (flat_map (λ s. s.symbol_defs) w.scripts)
     ∙ ap (λ (l : List Bytes). l ++ script_targets w.scripts) (prelude-targets w.options)
@@ -61,6 +61,20 @@ redirect-parts w =
 pub three-more : {X : Type 0} (old a b all x y z : List X) → a ≡ old ++ x → b ≡ a ++ y → all ≡ b ++ z → all ≡ old ++ (x ++ (y ++ z))
 three-more old a b all x y z first second third =
     third ∙ (ap (λ l. l ++ z) (second ∙ ap (λ l. l ++ y) first) ∙ (append_assoc (old ++ x) y z ∙ append_assoc old x (y ++ z)))
+
+-- the names of the prelude's redirects, then those of the linker scripts', are those of all redirects
+pub redirects-more : (w : Stage) (options : Options) (scripts : List ProcessedLinkerScript) (old own defined all : List Bytes)
+    → w.options ≡ options → w.scripts ≡ scripts → own ≡ old ++ targets_in options.linker_symbols → defined ≡ own ++ targets_in options.defsym → all ≡ defined ++ script_targets scripts
+    → all ≡ old ++ redirect_targets w
+redirects-more w options scripts old own defined all same_options same_scripts first second third =
+    let linker = targets_in options.linker_symbols in
+    let defsym = targets_in options.defsym in
+    let parts : redirect_targets w ≡ (linker ++ defsym) ++ script_targets scripts =
+    redirect-parts w
+    ∙ (ap (λ (o : Options). (targets_in o.linker_symbols ++ targets_in o.defsym) ++ script_targets w.scripts) same_options
+    ∙ ap (λ (l : List ProcessedLinkerScript). (linker ++ defsym) ++ script_targets l) same_scripts) in
+    three-more old own defined all linker defsym (script_targets scripts) first second third
+    ∙ ap (λ (l : List Bytes). old ++ l) (sym (append_assoc linker defsym (script_targets scripts)) ∙ sym parts)
 
 -- what the redirects of two lists of linker scripts refer to
 script-append : (xs ys : List ProcessedLinkerScript) → script_targets (xs ++ ys) ≡ script_targets xs ++ script_targets ys

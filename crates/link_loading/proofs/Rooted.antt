@@ -1,6 +1,6 @@
 -- The marks of what is kept and of what holds root names are the roots of the definition of loading.
-use Rattle.std.proofs.Common.{◌≡◌, ℕ, zero, suc, ◌+◌, ◌<◌, ◌≤◌, ◌∙◌, ◌⊎◌, List, [], ◌∷◌, Bool, true, false, length, get_or, Option, Some, None, refl, sym, ap, subst, arith, inl, inr}
-use Rattle.std.specs.Prelude.{◌||◌, ◌==◌, not, option_map, slice_get}
+use Rattle.std.proofs.Common.{◌≡◌, ℕ, zero, suc, ◌+◌, ◌<◌, ◌≤◌, ◌∙◌, ◌⊎◌, List, [], ◌∷◌, Bool, false, length, get_or, Option, Some, None, refl, sym, ap, subst, arith, inl, inr}
+use Rattle.std.specs.Prelude.{◌||◌, not, option_map, slice_get}
 use Rattle.std.specs.List.{list_any}
 use Rattle.std.specs.Option.{option_and_then, option_map_or}
 use Rattle.std.proofs.Math.Bool.{or_assoc}
@@ -15,14 +15,13 @@ use Rattle.link_rules.specs.Names.{first_definition}
 use Rattle.link_rules.specs.Places.{Bytes, each_from, is_number}
 use Rattle.link_rules.specs.World.{Stage, object_of}
 use Rattle.link_rules.specs.Rules.{PlatformRules}
-use Rattle.link_files.specs.Inputs.{objects_in}
 use Rattle.link_db.specs.Database.{Database}
 use Rattle.link_stage.specs.AtStage.{IsAtStage}
 use Rattle.link_loading.specs.declared.sources.SymbolSource.{SymbolSource}
 use Rattle.link_loading.specs.Objects.{is_kept, kept_marks}
 use Rattle.link_loading.specs.Sources.{source_of, sources_of}
 use Rattle.link_loading.proofs.Below.{object-below}
-use Rattle.link_loading.proofs.Listed.{each-length, same-some}
+use Rattle.link_loading.proofs.Listed.{each-length}
 
 -- the object of a symbol is told by its source
 pub object-there : (w : Stage) (s : ℕ) → option_and_then (λ (x : SymbolSource). x.object) (slice_get (sources_of w.symbols) s) ≡ object_of w s

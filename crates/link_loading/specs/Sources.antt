@@ -1,6 +1,5 @@
 -- Where the symbols of a link stand, as far as loading asks.
-use Rattle.std.specs.Prelude.{ℕ, List, map, Option, None, slice_get}
-use Rattle.std.specs.Option.{option_and_then}
+use Rattle.std.specs.Prelude.{List, map}
 use Rattle.link_input.specs.Symbols.{Symbol, object_in, is_shared}
 use Rattle.link_loading.specs.declared.sources.SymbolSource.{SymbolSource}
 

@@ -24,10 +24,7 @@ pub fn objects_of<P: Platform>(group: &Group<P>) -> &[SequencedInputObject<P>]
 fn is_marked(marks: &[bool], at: usize) -> bool
     ensures { result ≡ is_marked marks.now at }
 {
-    match marks.get(at) {
-        Some(mark) => *mark,
-        None => false,
-    }
+    marks.get(at).copied().unwrap_or(false)
 }
 
 /// Adds marks for objects: that an earlier batch had one loaded, or that it isn't optional.

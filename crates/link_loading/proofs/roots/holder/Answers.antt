@@ -1,4 +1,4 @@
-use Rattle.std.proofs.Common.{rules, ◌≡◌, ◌∙◌, ℕ, List, Option, Some, ap, sym}
+use Rattle.std.proofs.Common.{◌≡◌, ◌∙◌, List, Some, ap}
 use Rattle.std.specs.Prelude.{slice_get}
 use Rattle.std.specs.Option.{option_and_then}
 use Rattle.link_rules.specs.Names.{first_definition}
@@ -7,7 +7,6 @@ use Rattle.link_rules.specs.World.{object_of}
 use Rattle.link_mapping.specs.Mapped.{mapping_of}
 use Rattle.link_db.specs.Seen.{seen}
 use Rattle.link_loading.specs.declared.sources.SymbolSource.{SymbolSource}
-use Rattle.link_loading.specs.Sources.{sources_of}
 use Rattle.link_loading.proofs.Rooted.{object-there}
 use Rattle.link_loading.proofs.roots.holder.Goals as goal
 
