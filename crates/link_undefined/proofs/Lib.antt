@@ -1,0 +1,6 @@
+pub mod Naming
+pub mod Missing
+pub mod Numbering
+pub mod SectionNames
+pub mod LeftIds
+pub mod Alike

@@ -1,0 +1,6 @@
+pub mod Records
+pub mod Remaining
+pub mod Keys
+pub mod NameIds
+pub mod Boundaries
+pub mod Asked

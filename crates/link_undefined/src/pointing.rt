@@ -1,0 +1,1 @@
+//! What each symbol points to, once undefined references are done.
