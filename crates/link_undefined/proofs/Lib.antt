@@ -4,3 +4,5 @@ pub mod Numbering
 pub mod SectionNames
 pub mod LeftIds
 pub mod Alike
+pub mod Fewer
+pub mod Collected

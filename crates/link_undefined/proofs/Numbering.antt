@@ -1,8 +1,10 @@
 -- Symbols by their ids.
 use Rattle.std.proofs.Common.{◌≡◌, ◌+◌, ◌<◌, ◌≤◌, ◌++◌, ℕ, List, [], ◌∷◌, All, Bool, true, false, Option, Some, None, length, map, filter, reverse, option_map, slice_get, refl, sym, ◌∙◌, ap, subst, cond, arith, slice_index, zero, suc}
+use mathlib.Core.List.{reverse_aux}
 use Rattle.std.specs.List.{enumerate_from, cons_option}
 use Rattle.std.specs.List.Sorted.{IsStrictlyIncreasing}
 use Rattle.std.proofs.lemmas.List.Elements.{All-from_recursion, All-nil, All-cons}
+use Rattle.std.proofs.lemmas.Option.{slice_get_within}
 use Rattle.link_input.specs.Symbols.{Symbol}
 use Rattle.link_rules.specs.Undefined.{Numbered}
 use Rattle.link_undefined.specs.Records.{AreSome, numbered_at}
@@ -38,6 +40,29 @@ from-at symbols (x ∷ xs) i same =
 -- all symbols with their ids are so
 pub all-at : (symbols : List Symbol) → AreAt symbols (enumerate_from 0 symbols)
 all-at symbols = from-at symbols symbols 0 (λ k. let e : k ≡ 0 + k = omega arith in subst (λ n. slice_get symbols n ≡ slice_get symbols k) e refl)
+
+numbered-if : (symbols : List Symbol) (s : ℕ) (us : List Numbered) (o : Option Symbol) → slice_get symbols s ≡ o → AreAt symbols us → AreAt symbols (cons_option (option_map (λ x. (s, x)) o) us)
+numbered-if symbols s us None is at = at
+numbered-if symbols s us (Some x) is at = (is, at)
+
+-- those of ids are so
+pub numbered-are : (symbols : List Symbol) (ids : List ℕ) → AreAt symbols (numbered_at symbols ids)
+numbered-are symbols [] = tt
+numbered-are symbols (s ∷ ids) = numbered-if symbols s (numbered_at symbols ids) (slice_get symbols s) refl (numbered-are symbols ids)
+
+reversed-at : (symbols : List Symbol) (us vs : List Numbered) → AreAt symbols us → AreAt symbols vs → AreAt symbols (reverse_aux us vs)
+reversed-at symbols [] vs us-at vs-at = vs-at
+reversed-at symbols (u ∷ us) vs us-at vs-at = reversed-at symbols us (u ∷ vs) us-at.1 (us-at.0, vs-at)
+
+-- in reverse they are so too
+pub reverse-at : (symbols : List Symbol) (us : List Numbered) → AreAt symbols us → AreAt symbols (reverse us)
+reverse-at symbols us at = reversed-at symbols us [] at tt
+
+-- their ids are those of symbols
+pub ids-inside : (symbols : List Symbol) (us : List Numbered) → AreAt symbols us → All (λ s. s < length symbols) (map (λ (u : Numbered). u.0) us)
+ids-inside symbols [] at = All-nil (λ s. s < length symbols)
+ids-inside symbols (u ∷ us) at =
+    All-cons (λ s. s < length symbols) u.0 (map (λ (v : Numbered). v.0) us) (slice_get_within symbols u.0 u.1 at.0) (ids-inside symbols us at.1)
 
 -- numbers from one on and below another, in rising order
 abbrev Climbs : ℕ → ℕ → List ℕ → Type 0

@@ -1,9 +1,10 @@
 -- The names that mark the start and the end of custom sections.
-use Rattle.std.specs.Prelude.{◌≡◌, ◌++◌, ◌&&◌, ◌||◌, ℕ, Bool, List, Option, codes, is_none}
+use Rattle.std.specs.Prelude.{◌≡◌, ◌++◌, ◌&&◌, ◌||◌, ℕ, Bool, List, Option, codes, filter, is_none, reverse}
 use Rattle.std.specs.List.{list_any}
 use Rattle.std.specs.Str.{bytes_eq}
 use Rattle.link_names.specs.Names.{has_name, is_member}
 use Rattle.link_rules.specs.Places.{Bytes, is_number}
+use Rattle.link_rules.specs.Undefined.{Numbered}
 use Rattle.link_undefined.specs.declared.boundaries.SectionMarks.{SectionMarks}
 use Rattle.link_undefined.specs.declared.name_ids.NameIds.{NameIds}
 use Rattle.link_undefined.specs.NameIds.{id_in}
@@ -19,3 +20,7 @@ Marks marks sections = (asked : Bytes) → is_member marks.sections asked ≡ ha
 -- a new symbol is made for this reference to a name and version, where these are the last ones to names
 abbrev pub makes_new : List Bytes → NameIds → Bytes → Option Bytes → ℕ → Bool
 makes_new sections last name version s = is_none version && is_mark_of sections name && is_number (id_in last name version) s
+
+-- the references for which new symbols are made, the last of them first
+abbrev pub makers_by : List Bytes → NameIds → List Numbered → List Numbered
+makers_by sections last records = reverse (filter (λ u. makes_new sections last u.1.name u.1.version u.0) records)

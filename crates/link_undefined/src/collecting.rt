@@ -3,9 +3,8 @@
 ghost use Rattle.std.specs.Prelude.{◌≡◌, ◌&&◌, ◌+◌, ◌≤◌, ◌<◌, ◌^◌, All, IfOk, List, is_none, length, map, option_map, position};
 ghost use Rattle.link_files.specs.GroupFiles.{symbols_in};
 ghost use Rattle.link_rules.specs.Places.{Bytes, is_number};
-ghost use Rattle.link_rules.specs.Undefined.{asks_same, boundary_makers, last_alike};
-ghost use Rattle.link_rules.specs.World.{Stage};
-ghost use Rattle.link_undefined.specs.Boundaries.{Marks, is_mark_of, makes_new};
+ghost use Rattle.link_rules.specs.Undefined.{asks_same, last_alike};
+ghost use Rattle.link_undefined.specs.Boundaries.{Marks, is_mark_of, makers_by, makes_new};
 ghost use Rattle.link_undefined.specs.Keys.{version_of};
 ghost use Rattle.link_undefined.specs.NameIds.{Answers};
 ghost use Rattle.link_undefined.specs.Records.{numbered_at};
@@ -72,8 +71,7 @@ pub(crate) fn makers_among<'a, P: Platform>(
     last: &NameIds<'a>,
 ) -> Result<Vec<SymbolId>, AllocError>
     requires { All (λ s. s < length (symbols_in files.now.groups)) left.now }
-    ensures { IfOk result (λ makers. (w : Stage) → let records = numbered_at (symbols_in files.now.groups) left.now in
-        Marks marks.now w.options.custom_sections → Answers last.now (last_alike records) → makers.items ≡ map (λ u. u.0) (boundary_makers w records)) }
+    ensures { IfOk result (λ makers. (sections : List Bytes) → Marks marks.now sections → makers.items ≡ map (λ u. u.0) (makers_by sections last.now (numbered_at (symbols_in files.now.groups) left.now))) }
 {
     let mut makers = Vec::new(alloc);
     for id in left {
