@@ -6,3 +6,5 @@ pub mod LeftIds
 pub mod Alike
 pub mod Fewer
 pub mod Collected
+pub mod Editing
+pub mod FinalEntries

@@ -4,3 +4,5 @@ pub mod Keys
 pub mod NameIds
 pub mod Boundaries
 pub mod Asked
+pub mod Edited
+pub mod Pointed

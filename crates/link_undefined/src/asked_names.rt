@@ -27,6 +27,7 @@ pub struct AskedNames<'a> {
 }
 
 impl<'a> AskedNames<'a> {
+    ghost use Rattle.link_rules.specs.Places.{each_from};
     ghost use Rattle.link_rules.specs.World.{Stage};
     ghost use Rattle.link_undefined.specs.Asked.{AreAsked, IsStageOf, canonical_in, first_new_in, last_in, makers_in, new_in};
     ghost use Rattle.link_undefined.specs.Keys.{version_of};
@@ -97,5 +98,17 @@ impl<'a> AskedNames<'a> {
         ensures { result ≡ first_new_in self.now }
     {
         self.first_new
+    }
+
+    /// The ids of the new symbols, in order.
+    pub fn new_ids(&self, alloc: Global) -> Result<Vec<SymbolId>, AllocError>
+        ensures { IfOk result (λ ids. ids.items ≡ each_from (λ s m. s) (first_new_in self.now) (makers_in self.now)) }
+    {
+        let first = self.first_new.as_usize();
+        let mut ids = Vec::with_capacity(alloc, self.makers.len())?;
+        for (place, _) in self.makers.iter().enumerate() {
+            ids.push(SymbolId::from_usize(first + place))?;
+        }
+        Ok(ids)
     }
 }

@@ -11,5 +11,5 @@ mod references;
 
 pub use asked_name::AskedName;
 pub use asked_names::AskedNames;
-// pub use pointing::{point_references, point_undefined};
+pub use pointing::{point_references, point_undefined};
 pub use references::references_left;
