@@ -7,7 +7,7 @@ use Rattle.std.proofs.lemmas.Option.{slice_get_read}
 use Rattle.link_groups.proofs.FileTotals.{drop-at}
 use Rattle.link_input.specs.Symbols.{Symbol}
 use Rattle.link_rules.specs.Places.{Bytes, last_of, is_number}
-use Rattle.link_rules.specs.Undefined.{Numbered, asks_same, boundary_makers, last_alike}
+use Rattle.link_rules.specs.Undefined.{Numbered, asks_same, boundary_makers, is_boundary_maker, last_alike}
 use Rattle.link_rules.specs.World.{Stage}
 use Rattle.link_undefined.specs.declared.asked_name.AskedName.{AskedName}
 use Rattle.link_undefined.specs.declared.name_ids.NameIds.{NameIds}
@@ -64,6 +64,11 @@ pub makes-same : (sections : List Bytes) (last : NameIds) (asked : AskedName) (s
     → makes_new sections last asked.name.now (version_of asked) s ≡ makes_new sections last y.name y.version s
 makes-same sections last asked s y asks = (λ i. makes_new sections last (asks.name i) (asks.version i) s)
 
+-- the last references to names are those of the stage
+pub made-by : (w : Stage) (records : List Numbered) (last : NameIds) → Answers last (last_alike records) → (s : ℕ) (x : Symbol)
+    → makes_new w.options.custom_sections last x.name x.version s ≡ is_boundary_maker w records (s, x)
+made-by w records last answers s x = (λ i. is_none x.version && is_mark_of w.options.custom_sections x.name && is_number (answers x i) s)
+
 -- new symbols are made for the last references to marks
 pub makers-same : (w : Stage) (records : List Numbered) (last : NameIds) → Answers last (last_alike records) → makers_by w.options.custom_sections last records ≡ boundary_makers w records
 makers-same w records last answers =
@@ -97,7 +102,7 @@ map-if f i rest false = refl
 pub place-step : (symbols : List Symbol) (asked : AskedName) (first i s : ℕ) (ids : List ℕ) (y x : Symbol) (old new : Option ℕ) → slice_get symbols s ≡ Some y → Asks asked y
     → new ≡ option_or old (if same_name asked.name.now (version_of asked) x.name x.version then Some (first + i) else None)
     → option_or new (option_map (λ k. first + k) (position_from (λ (m : Numbered). asks_same m.1 x) (i + 1) (numbered_at symbols ids)))
-      ≡ option_or old (option_map (λ k. first + k) (position_from (λ (m : Numbered). asks_same m.1 x) i (numbered_at symbols (s ∷ ids))))
+    ≡ option_or old (option_map (λ k. first + k) (position_from (λ (m : Numbered). asks_same m.1 x) i (numbered_at symbols (s ∷ ids))))
 place-step symbols asked first i s ids y x old new at asks is =
     let rest = position_from (λ (m : Numbered). asks_same m.1 x) (i + 1) (numbered_at symbols ids) in
     (λ j. option_or (is j) (option_map (λ k. first + k) rest))

@@ -135,9 +135,9 @@ few-made last us rises (s ∷ ss) =
     let stop = codes "__stop_" ++ s in
     let marks = λ (u : Numbered). is_none u.1.version && (bytes_eq u.1.name start || bytes_eq u.1.name stop) && is_number (id_in last u.1.name u.1.version) u.0 in
     let all = split (λ (u : Numbered). makes_new (s ∷ ss) last u.1.name u.1.version u.0) marks (λ (u : Numbered). makes_new ss last u.1.name u.1.version u.0)
-      (λ u. parted (is_none u.1.version) (bytes_eq u.1.name start || bytes_eq u.1.name stop) (is_mark_of ss u.1.name) (is_number (id_in last u.1.name u.1.version) u.0)) us in
+    (λ u. parted (is_none u.1.version) (bytes_eq u.1.name start || bytes_eq u.1.name stop) (is_mark_of ss u.1.name) (is_number (id_in last u.1.name u.1.version) u.0)) us in
     let two = split marks (is_last_of last start) (is_last_of last stop)
-      (λ u. parted (is_none u.1.version) (bytes_eq u.1.name start) (bytes_eq u.1.name stop) (is_number (id_in last u.1.name u.1.version) u.0)) us in
+    (λ u. parted (is_none u.1.version) (bytes_eq u.1.name start) (bytes_eq u.1.name stop) (is_number (id_in last u.1.name u.1.version) u.0)) us in
     omega (arith, all, two, one-last last start us rises, one-last last stop us rises, few-made last us rises ss)
 
 -- there are at most two new symbols for each section

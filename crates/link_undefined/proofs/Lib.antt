@@ -8,3 +8,4 @@ pub mod Fewer
 pub mod Collected
 pub mod Editing
 pub mod FinalEntries
+pub mod Passing

@@ -43,7 +43,7 @@ by-object marks n weak (Some m) loaded = by-mark marks n m weak (is_marked marks
 
 by-symbol : (marks : List Bool) (n : ℕ) (weak : Bool) (y : Option Symbol) → is_marked marks n ≡ true
     → weak && not (option_map_or (λ (x : Symbol). is_origin_loaded marks x.origin) y false)
-      ≡ not (option_map_or (λ (x : Symbol). is_origin_loaded marks x.origin) y false) && (weak || same_number (Some n) (option_and_then (λ (x : Symbol). object_in x.origin) y))
+    ≡ not (option_map_or (λ (x : Symbol). is_origin_loaded marks x.origin) y false) && (weak || same_number (Some n) (option_and_then (λ (x : Symbol). object_in x.origin) y))
 by-symbol marks n weak None loaded = always weak
 by-symbol marks n weak (Some x) loaded = by-object marks n weak (object_in x.origin) loaded
 

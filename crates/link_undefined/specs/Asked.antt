@@ -6,6 +6,8 @@ use Rattle.link_rules.specs.Places.{Bytes}
 use Rattle.link_rules.specs.Undefined.{Numbered, boundary_makers, canonical_undefined, last_alike, new_symbol}
 use Rattle.link_rules.specs.World.{Stage}
 use Rattle.link_undefined.specs.declared.asked_names.AskedNames.{AskedNames}
+use Rattle.link_undefined.specs.declared.boundaries.SectionMarks.{SectionMarks}
+use Rattle.link_undefined.specs.Boundaries.{Marks}
 use Rattle.link_undefined.specs.NameIds.{id_in}
 
 -- the stage of a link with these symbols and these custom sections
@@ -33,9 +35,14 @@ makers_in asked = asked.makers.items
 abbrev pub first_new_in : AskedNames → ℕ
 first_new_in asked = asked.first_new
 
+-- the names for which new symbols are made
+abbrev pub marks_in : AskedNames → SectionMarks
+marks_in asked = asked.marks
+
 -- what is kept is of these references, which stay undefined at the stage
 pub record AreAsked (asked : AskedNames) (w : Stage) (left : List Numbered) : Type 0 where
   pub last : (x : Symbol) → last_in asked x.name x.version ≡ last_alike left x
   pub made : (x : Symbol) → new_in asked x.name x.version ≡ new_symbol w (boundary_makers w left) x
   pub makers : makers_in asked ≡ map (λ u. u.0) (boundary_makers w left)
   pub first_new : first_new_in asked ≡ length w.symbols
+  pub marks : Marks (marks_in asked) w.options.custom_sections

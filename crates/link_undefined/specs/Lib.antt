@@ -6,3 +6,5 @@ pub mod Boundaries
 pub mod Asked
 pub mod Edited
 pub mod Pointed
+pub mod Says
+pub mod Flagged

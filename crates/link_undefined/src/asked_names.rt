@@ -1,11 +1,11 @@
 //! What stands for each name that undefined references ask for.
 
-ghost use Rattle.std.specs.Prelude.{◌≡◌, ◌+◌, ◌*◌, ◌≤◌, ◌^◌, IfOk, length};
+ghost use Rattle.std.specs.Prelude.{◌≡◌, ◌+◌, ◌*◌, ◌≤◌, ◌^◌, IfOk, List, length};
 ghost use Rattle.link_files.specs.GroupFiles.{symbols_in};
 
 use crate::asked_name::AskedName;
 use crate::boundaries::SectionMarks;
-use crate::collecting::{last_asked, makers_among, new_symbols};
+use crate::collecting::{is_maker, last_asked, makers_among, new_symbols};
 use crate::name_ids::NameIds;
 use link_files::Files;
 use link_ids::SymbolId;
@@ -23,14 +23,18 @@ pub struct AskedNames<'a> {
     makers: Vec<SymbolId>,
     /// The id of the first new symbol.
     first_new: SymbolId,
+    /// The names for which new symbols are made.
+    marks: SectionMarks,
     ghost fits: { first_new + length makers.items ≤ 2 ^ 32 },
 }
 
 impl<'a> AskedNames<'a> {
     ghost use Rattle.link_rules.specs.Places.{each_from};
+    ghost use Rattle.link_rules.specs.Undefined.{Numbered, is_boundary_maker};
     ghost use Rattle.link_rules.specs.World.{Stage};
+    ghost use Rattle.link_input.specs.Symbols.{Symbol};
     ghost use Rattle.link_undefined.specs.Asked.{AreAsked, IsStageOf, canonical_in, first_new_in, last_in, makers_in, new_in};
-    ghost use Rattle.link_undefined.specs.Keys.{version_of};
+    ghost use Rattle.link_undefined.specs.Keys.{Asks, version_of};
     ghost use Rattle.link_undefined.specs.Records.{AreSome, numbered_at};
 
     /// What these references ask for, which stay undefined. New symbols are made for the starts and ends of these sections, the first with the
@@ -56,6 +60,7 @@ impl<'a> AskedNames<'a> {
             made,
             makers,
             first_new,
+            marks,
         })
     }
 
@@ -98,6 +103,13 @@ impl<'a> AskedNames<'a> {
         ensures { result ≡ first_new_in self.now }
     {
         self.first_new
+    }
+
+    /// Whether a new symbol is made for the reference of this id.
+    pub(crate) fn makes_new(&self, asked: AskedName<'a>, id: SymbolId) -> bool
+        ensures { (w : Stage) → (left : List Numbered) → (x : Symbol) → AreAsked self.now w left → Asks asked.entry x → result ≡ is_boundary_maker w left (id, x) }
+    {
+        is_maker(&self.marks, &self.last, asked, id)
     }
 
     /// The ids of the new symbols, in order.

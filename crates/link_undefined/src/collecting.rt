@@ -51,7 +51,7 @@ fn is_boundary(marks: &SectionMarks, asked: AskedName) -> bool
 }
 
 /// Whether a new symbol is made for the reference: the last to the start or the end of a custom section.
-fn is_maker<'a>(
+pub(crate) fn is_maker<'a>(
     marks: &SectionMarks,
     last: &NameIds<'a>,
     asked: AskedName<'a>,

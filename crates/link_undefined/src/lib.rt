@@ -5,11 +5,16 @@ mod asked_name;
 mod asked_names;
 mod boundaries;
 mod collecting;
+mod flagging;
 mod name_ids;
 mod pointing;
+mod reference;
 mod references;
+#[cfg(test)]
+mod tests;
 
 pub use asked_name::AskedName;
 pub use asked_names::AskedNames;
+pub use flagging::{flag_references, flag_undefined};
 pub use pointing::{point_references, point_undefined};
 pub use references::references_left;

@@ -28,12 +28,7 @@ fn keeps_entry<'a>(asked: &AskedNames<'a>, name: AskedName<'a>, id: SymbolId) ->
 }
 
 /// What the reference of this id points to: to what stands for its name, but the last to a name with a version to what it did.
-fn pointed<'a>(
-    asked: &AskedNames<'a>,
-    name: AskedName<'a>,
-    id: SymbolId,
-    old: SymbolId,
-) -> SymbolId
+fn pointed<'a>(asked: &AskedNames<'a>, name: AskedName<'a>, id: SymbolId, old: SymbolId) -> SymbolId
     ensures { (x : Symbol) → Asks name.entry x → result ≡ pointed asked.now (id, x) old }
 {
     if keeps_entry(asked, name, id) {

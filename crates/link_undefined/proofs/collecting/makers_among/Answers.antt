@@ -17,8 +17,8 @@ loop-id-preserved g c = λ sections. λ marks.
     let s = c.id-item.result in
     let new : c.if-is_maker.makers.items ≡ (if c.is_maker.result then c.loop-id.makers.items ++ s ∷ [] else c.loop-id.makers.items) =
     elim c.if-is_maker.branch [
-      then-is_maker+in_ok-push v ↦ (λ i. (v.makers-is i).items) ∙ (v.in_ok-push.ensures.items ∙ (λ i. if sym v.if-is_maker.true i then c.loop-id.makers.items ++ s ∷ [] else c.loop-id.makers.items))
-    | else-is_maker v ↦ (λ i. (v.makers-is i).items) ∙ (λ i. if sym v.if-is_maker.false i then c.loop-id.makers.items ++ s ∷ [] else c.loop-id.makers.items)
+      | then-is_maker+in_ok-push v ↦ (λ i. (v.makers-is i).items) ∙ (v.in_ok-push.ensures.items ∙ (λ i. if sym v.if-is_maker.true i then c.loop-id.makers.items ++ s ∷ [] else c.loop-id.makers.items))
+      | else-is_maker v ↦ (λ i. (v.makers-is i).items) ∙ (λ i. if sym v.if-is_maker.false i then c.loop-id.makers.items ++ s ∷ [] else c.loop-id.makers.items)
     ] in
     keep-step makes symbols c.loop-id.makers.items c.if-is_maker.makers.items s (drop (c.loop-id.id-index + 1) left) c.of.ensures.0 c.is_maker.result c.of.ensures.1.0
     (c.is_maker.ensures sections marks ∙ makes-same sections c.args.last.now c.of.result s c.of.ensures.0 c.of.ensures.1.1) new

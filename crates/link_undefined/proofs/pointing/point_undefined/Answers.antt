@@ -14,4 +14,4 @@ returns-clause-ok g c = λ l. λ are. λ is.
     whole
     ∙ (c.point_references.ensures l c.in_ok-new.new.items are lent
     ∙ ap (λ (ids : List ℕ). each_from (final_entry l (left_undefined l) (versioned_table l)) 0 l.stage.symbols ++ ids)
-      (c.in_ok-new.ensures ∙ new-ids (symbols_in c.args.files.now.groups) c.args.left.now c.args.asked.now l are))
+    (c.in_ok-new.ensures ∙ new-ids (symbols_in c.args.files.now.groups) c.args.left.now c.args.asked.now l are))

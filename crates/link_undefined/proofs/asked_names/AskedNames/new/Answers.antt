@@ -1,6 +1,7 @@
-use Rattle.std.proofs.Common.{◌≡◌, ◌∙◌, ◌^◌, ap, length, map, sym}
+use Rattle.std.proofs.Common.{◌≡◌, ◌∙◌, ◌^◌, ap, length, map, subst, sym}
 use Rattle.link_files.specs.GroupFiles.{symbols_in}
 use Rattle.link_rules.specs.Undefined.{Numbered}
+use Rattle.link_undefined.specs.Boundaries.{Marks}
 use Rattle.link_undefined.proofs.Collected.{made-are, makers-are, makers-fit, makers-inside}
 use Rattle.link_undefined.proofs.asked_names.AskedNames.new.Goals as goal
 
@@ -31,4 +32,5 @@ returns g c = λ w. λ stage.
       made = λ x. c.in_ok-made.ensures x ∙ made-are symbols left sections last w stage c.in_ok-last.ensures c.args.first_new c.as_slice.result.now x c.requires.first (c.as_slice.ensures.value ∙ makers);
       makers = makers ∙ ap (map (λ (u : Numbered). u.0)) (makers-are symbols left sections last w stage c.in_ok-last.ensures);
       first_new = c.requires.first ∙ ap length (sym stage.symbols_are);
+      marks = subst (Marks c.in_ok-marks.marks) (sym stage.sections_are) c.in_ok-marks.ensures;
     }
