@@ -1,5 +1,5 @@
 -- What undefined references have for themselves and pass to others makes the flags at the end.
-use Rattle.std.proofs.Common.{◌≡◌, ◌≢◌, ◌+◌, ◌<◌, ◌≤◌, ◌∙◌, ◌++◌, ℕ, List, [], ◌∷◌, Bool, true, false, Option, Some, None, if◌then◌else◌, eqb, filter, length, map, slice_get, slice_index, slice_set, refl, sym, ap, subst, arith, zero, suc, bit_or}
+use Rattle.std.proofs.Common.{◌≡◌, ◌≢◌, ◌+◌, ◌<◌, ◌≤◌, ◌∙◌, ◌++◌, ℕ, List, [], ◌∷◌, Bool, true, false, Option, Some, None, if◌then◌else◌, eqb, filter, length, map, slice_get, slice_index, slice_set, append_assoc, drop, get_or, refl, sym, ap, subst, arith, zero, suc, bit_or}
 use Rattle.std.specs.Prelude.{fold}
 use Rattle.std.specs.Int.Bits.{or_zero_l, or_zero_r}
 use Rattle.std.specs.Option.{option_map_or}
@@ -7,24 +7,26 @@ use Rattle.std.proofs.lemmas.Bool.Decides.{Decides-eqb}
 use Rattle.std.proofs.lemmas.List.{get_or-map, get_or-set_other, get_or-set_same, length-set, map-set, set_past}
 use Rattle.std.proofs.lemmas.Option.{slice_get_past}
 use Rattle.link_closure.proofs.Joins.{or_assoc}
+use Rattle.link_flags.specs.FlagBits as flag
 use Rattle.link_flags.specs.FlagWords.{bits_at, with_flag}
 use Rattle.link_flags.specs.declared.value_flags.RawFlags.{RawFlags}
 use Rattle.link_flags.specs.declared.visibility.Visibility.{Visibility}
 use Rattle.link_input.specs.declared.options.OutputKind.{OutputKind}
 use Rattle.link_input.specs.Symbols.{Symbol, is_shared, visibility_in}
-use Rattle.link_rules.specs.FinalFlags.{passed_flags, visibility_target}
+use Rattle.link_rules.specs.FinalFlags.{final_flags, passed_flags, visibility_target}
 use Rattle.link_rules.specs.Flags.{flags_if, joined_flags}
 use Rattle.link_rules.specs.Marking.{visibility_flags}
 use Rattle.link_rules.specs.Names.{Mapping}
 use Rattle.link_rules.specs.Places.{each_from, is_number}
 use Rattle.link_rules.specs.Selection.{Selection}
 use Rattle.link_rules.specs.Undefined.{Numbered, Resolution, final_table_over, left_undefined, resolution_from, stays_undefined}
+use Rattle.link_rules.specs.Visibility.{narrowed_flags}
 use Rattle.link_rules.specs.World.{Stage, is_shared_at}
 use Rattle.link_undefined.specs.declared.asked_names.AskedNames.{AskedNames}
 use Rattle.link_undefined.specs.Edited.{edited}
-use Rattle.link_undefined.specs.Flagged.{IsEnd, IsEndOf, all_passed, flagged, flagged_new, flagged_symbol, own_flags, with_own, with_passed}
+use Rattle.link_undefined.specs.Flagged.{IsEnd, IsEndOf, all_passed, flagged, flagged_new, flagged_symbol, new_words, own_flags, signed, with_own, with_passed, with_signatures}
 use Rattle.link_undefined.specs.Records.{numbered_at}
-use Rattle.link_undefined.proofs.Alike.{numbered-first}
+use Rattle.link_undefined.proofs.Alike.{drop-next, numbered-first}
 use Rattle.link_undefined.proofs.Editing.{changed, edited-all, length-each}
 
 fold-join : (a : ℕ) (xs : List ℕ) → fold bit_or a xs ≡ bit_or a (joined_flags xs)
@@ -75,9 +77,13 @@ each-append f i (x ∷ xs) ys =
     let e : i + 1 + length xs ≡ i + suc (length xs) = omega arith in
     ap (λ (l : List ℕ). f i x ∷ l) (each-append f (i + 1) xs ys) ∙ ap (λ n. f i x ∷ each_from f (i + 1) xs ++ each_from f n ys) e
 
-each-each : (f : ℕ → ℕ → ℕ) (g : ℕ → Symbol → ℕ) (i : ℕ) (xs : List Symbol) → each_from f i (each_from g i xs) ≡ each_from (λ s x. f s (g s x)) i xs
+each-each : {X : Type 0} (f : ℕ → ℕ → ℕ) (g : ℕ → X → ℕ) (i : ℕ) (xs : List X) → each_from f i (each_from g i xs) ≡ each_from (λ s x. f s (g s x)) i xs
 each-each f g i [] = refl
 each-each f g i (x ∷ xs) = ap (λ (l : List ℕ). f i (g i x) ∷ l) (each-each f g (i + 1) xs)
+
+each-map : (f : ℕ → ℕ → ℕ) (n i : ℕ) (us : List Numbered) → each_from f i (map (λ (u : Numbered). n) us) ≡ each_from (λ s (u : Numbered). f s n) i us
+each-map f n i [] = refl
+each-map f n i (u ∷ us) = ap (λ (l : List ℕ). f i n ∷ l) (each-map f n (i + 1) us)
 
 each-found : (f g : ℕ → Symbol → ℕ) (i : ℕ) (xs : List Symbol) → ((k : ℕ) (x : Symbol) → slice_get xs k ≡ Some x → f (i + k) x ≡ g (i + k) x) → each_from f i xs ≡ each_from g i xs
 each-found f g i [] same = refl
@@ -161,8 +167,8 @@ module _ (l : Selection) (before : List ℕ) where
       let own = each_from (changed change (stays_undefined l) before) 0 l.stage.symbols in
       let count : 0 + length own ≡ length l.stage.symbols = omega (arith, length-each (changed change (stays_undefined l) before) 0 l.stage.symbols) in
       let olds = each-each join (changed change (stays_undefined l) before) 0 l.stage.symbols
-        ∙ each-found (λ s x. join s (changed change (stays_undefined l) before s x)) (flagged_symbol r before) 0 l.stage.symbols
-        (λ k x at. let e : k ≡ 0 + k = omega arith in symbol-is (0 + k) x (subst (λ n. slice_get l.stage.symbols n ≡ Some x) e at)) in
+      ∙ each-found (λ s x. join s (changed change (stays_undefined l) before s x)) (flagged_symbol r before) 0 l.stage.symbols
+      (λ k x at. let e : k ≡ 0 + k = omega arith in symbol-is (0 + k) x (subst (λ n. slice_get l.stage.symbols n ≡ Some x) e at)) in
       let news = ap (λ n. each_from join n more) count ∙ each-past join (flagged_new r) (length l.stage.symbols) (length l.stage.symbols) more (omega arith) new-is in
       ap (all_passed r r.left) (edited-all change (stays_undefined l) before l.stage.symbols more len)
       ∙ (all-passed r r.left (own ++ more)
@@ -214,3 +220,30 @@ flagged-end symbols left asked mapping table output l before more flags end is l
     let r = resolution_from l (left_undefined l) in
     (λ i. all_passed r (end.left_are.records_are i) (edited (with_own (end.output_is i) (end.table_is i)) (end.left_are.records_are i) (is i)))
     ∙ flagged-all l before more (len ∙ ap length (sym end.left_are.symbols_are))
+
+-- a word is put behind the others
+pub word-pushed : (olds news ms : List ℕ) (n i m : ℕ) → i < length ms → m ≡ get_or ms i m → news ≡ olds ++ n ∷ []
+    → news ++ map (λ (k : ℕ). n) (drop (i + 1) ms) ≡ olds ++ map (λ (k : ℕ). n) (drop i ms)
+word-pushed olds news ms n i m below at is =
+    (λ j. is j ++ map (λ (k : ℕ). n) (drop (i + 1) ms))
+    ∙ (append_assoc olds (n ∷ []) (map (λ (k : ℕ). n) (drop (i + 1) ms))
+    ∙ (λ j. olds ++ map (λ (k : ℕ). n) (sym (drop-next ms i m below at) j)))
+
+-- one word for each maker
+pub words-of-makers : (n : ℕ) (us : List Numbered) → map (λ (k : ℕ). n) (map (λ (u : Numbered). u.0) us) ≡ map (λ (u : Numbered). n) us
+words-of-makers n [] = refl
+words-of-makers n (u ∷ us) = ap (λ (l : List ℕ). n ∷ l) (words-of-makers n us)
+
+-- with the flags of signatures these are the flags at the end
+pub signed-all : (r : Resolution) → with_signatures r (flagged r (narrowed_flags r.selection) (new_words r)) ≡ final_flags r
+signed-all r =
+    let symbols = r.selection.stage.symbols in
+    let before = narrowed_flags r.selection in
+    let olds = each_from (flagged_symbol r before) 0 symbols in
+    let news = each_from (flagged_new r) (length symbols) (new_words r) in
+    let count : 0 + length olds ≡ length symbols = omega (arith, length-each (flagged_symbol r before) 0 symbols) in
+    let old-signed = each-each (signed r) (flagged_symbol r before) 0 symbols in
+    let new-signed = ap (λ n. each_from (signed r) n news) count
+    ∙ (each-each (signed r) (flagged_new r) (length symbols) (new_words r)
+    ∙ each-map (λ s old. signed r s (flagged_new r s old)) flag.non_interposable (length symbols) r.made) in
+    each-append (signed r) 0 olds news ∙ (λ i. old-signed i ++ new-signed i)

@@ -7,11 +7,11 @@ use Rattle.link_flags.specs.declared.per_symbol_flags.PerSymbolFlags.{PerSymbolF
 use Rattle.link_flags.specs.declared.visibility.Visibility.{Visibility}
 use Rattle.link_input.specs.declared.options.OutputKind.{OutputKind}
 use Rattle.link_input.specs.Symbols.{Symbol, is_shared, visibility_in}
-use Rattle.link_rules.specs.FinalFlags.{passed_flags, undefined_flags, visibility_target}
+use Rattle.link_rules.specs.FinalFlags.{passed_flags, signature_symbols, undefined_flags, visibility_target}
 use Rattle.link_rules.specs.Flags.{flags_if, joined_flags}
 use Rattle.link_rules.specs.Marking.{visibility_flags}
 use Rattle.link_rules.specs.Names.{Mapping, first_definition}
-use Rattle.link_rules.specs.Places.{Bytes, each_from}
+use Rattle.link_rules.specs.Places.{Bytes, contains, each_from}
 use Rattle.link_rules.specs.Undefined.{Numbered, Resolution, boundary_makers, final_table_over, is_weak_symbol, left_undefined}
 use Rattle.link_rules.specs.Selection.{Selection}
 use Rattle.link_rules.specs.World.{Stage, is_shared_at}
@@ -70,3 +70,15 @@ flagged_new r s old = joined_flags (old ∷ passed_flags r s false ∷ [])
 -- the flags of all symbols, old and new
 abbrev pub flagged : Resolution → List ℕ → List ℕ → List ℕ
 flagged r flags new = each_from (flagged_symbol r flags) 0 r.selection.stage.symbols ++ each_from (flagged_new r) (length r.selection.stage.symbols) new
+
+-- the words of new symbols: no other file may take their place
+abbrev pub new_words : Resolution → List ℕ
+new_words r = map (λ m. flag.non_interposable) r.made
+
+-- the flags of a symbol joined with that of a signature, if it is one
+abbrev pub signed : Resolution → ℕ → ℕ → ℕ
+signed r s old = bit_or old (flags_if (contains s (signature_symbols r)) flag.group_signature)
+
+-- the flags of all symbols with those of signatures
+abbrev pub with_signatures : Resolution → List ℕ → List ℕ
+with_signatures r flags = each_from (signed r) 0 flags

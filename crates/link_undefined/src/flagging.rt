@@ -13,7 +13,7 @@ ghost use Rattle.link_rules.specs.Selection.{Selection};
 ghost use Rattle.link_rules.specs.Undefined.{Resolution, left_undefined, resolution_from};
 ghost use Rattle.link_undefined.specs.Asked.{makers_in};
 ghost use Rattle.link_undefined.specs.Edited.{edited};
-ghost use Rattle.link_undefined.specs.Flagged.{IsEnd, IsEndOf, all_passed, flagged, numbers_in, with_own};
+ghost use Rattle.link_undefined.specs.Flagged.{IsEnd, IsEndOf, all_passed, flagged, new_words, numbers_in, with_own};
 ghost use Rattle.link_undefined.specs.Keys.{Asks};
 ghost use Rattle.link_undefined.specs.Records.{AreSome, numbered_at};
 
@@ -164,9 +164,10 @@ pub fn flag_references<'a, P: Platform, M: FirstDefinitions>(
 /// Gives each new symbol its word: no other file may take its place.
 fn push_new<'a>(asked: &AskedNames<'a>, flags: &mut PerSymbolFlags) -> Result<(), AllocError>
     ensures ok { OnOk result (numbers_in flags.new ≡ numbers_in flags.old ++ map (λ _. flag.non_interposable) (makers_in asked.now)) }
-    ensures same { (more : List ℕ) × (numbers_in flags.new ≡ numbers_in flags.old ++ more) }
+    ensures err { OnErr result ((more : List ℕ) × (numbers_in flags.new ≡ numbers_in flags.old ++ more)) }
 {
-    for _ in asked.makers() {
+    let makers = asked.makers();
+    for _maker in makers {
         flags.push(ValueFlags::NON_INTERPOSABLE)?;
     }
     Ok(())
@@ -188,7 +189,7 @@ pub fn flag_undefined<'a, P: Platform, M: FirstDefinitions>(
     requires flags { length (symbols_in files.now.groups) ≤ length (words_of flags.old) }
     ensures ok { OnOk result ((l : Selection) → IsEndOf (symbols_in files.now.groups) left.now asked.now (M.mapping names.now) table.now output l
         → length (words_of flags.old) ≡ length (symbols_in files.now.groups)
-        → numbers_in flags.new ≡ flagged (resolution_from l (left_undefined l)) (numbers_in flags.old) (map (λ _. flag.non_interposable) (makers_in asked.now))) }
+        → numbers_in flags.new ≡ flagged (resolution_from l (left_undefined l)) (numbers_in flags.old) (new_words (resolution_from l (left_undefined l)))) }
     ensures err { OnErr result ((more : List ℕ) × (numbers_in flags.new ≡ numbers_in flags.old ++ more)) }
 {
     push_new(asked, flags)?;

@@ -9,6 +9,6 @@ use Rattle.link_undefined.proofs.flagging.flag_own.Given as goal
 abbrev pub invariant-loop-id : goal.invariant-loop-id
 invariant-loop-id g l = record {
   own : edited (with_own l.output l.table) (numbered_at (symbols_in l.files.groups) (drop l.id-index l.left)) (numbers_in l.flags)
-    ≡ edited (with_own l.output l.table) (numbered_at (symbols_in l.files.groups) l.left) (numbers_in l.fn.flags);
+      ≡ edited (with_own l.output l.table) (numbered_at (symbols_in l.files.groups) l.left) (numbers_in l.fn.flags);
   len : length (words_of l.flags) ≡ length (words_of l.fn.flags);
 }

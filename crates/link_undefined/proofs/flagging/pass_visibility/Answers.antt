@@ -17,7 +17,7 @@ returns-then-as_usize-len-clause-passed g c = λ r. λ end.
     let target : visibility_target r (c.args.id, x) ≡ Some c.in-Some.target = sym (c.visibility_target.ensures symbols r x end says.asks) ∙ c.in-Some.is in
     c.join_flags.ensures.numbers
     ∙ passed-one r symbols c.args.id c.in-Some.target x (numbers_in c.args.flags.now) c.of-reference.ensures.1.0 target c.passed_flags-bits.result.0 end.symbols_are
-      (c.passed_flags-bits.ensures ∙ (λ i. visibility_flags (says.visibility i) (c.is_shared_at.ensures i)))
+    (c.passed_flags-bits.ensures ∙ (λ i. visibility_flags (says.visibility i) (c.is_shared_at.ensures i)))
 
 pub returns-else-as_usize-len-clause-passed : goal.returns-else-as_usize-len-clause-passed
 returns-else-as_usize-len-clause-passed g c = λ r. λ end.
