@@ -2,18 +2,21 @@
 
 ghost use Rattle.std.specs.Prelude.{◌≡◌, ◌≤◌, IfOk, [], length};
 ghost use Rattle.link_files.specs.GroupFiles.{symbols_in};
+ghost use Rattle.link_flags.specs.FlagWords.{words_of};
 ghost use Rattle.link_undefined.specs.Records.{AreSome};
 
-use crate::{AskedNames, point_undefined, references_left};
+use crate::{AskedNames, flag_undefined, point_undefined, references_left};
+use bitflags::Flags;
 use link_files::Files;
-use link_flags::Visibility;
+use link_flags::{PerSymbolFlags, ValueFlags, Visibility};
 use link_groups::create_groups;
-use link_ids::SymbolId;
+use link_ids::{SymbolId, SymbolIdRange};
 use link_input::{
-    InputObject, Inputs, MachLike, Modifiers, ObjectTable, Options, ParsedInputObject, Place,
-    SymbolBinding, SymbolEntry, SymbolKind,
+    InputObject, Inputs, MachLike, Modifiers, ObjectTable, Options, OutputKind, ParsedInputObject,
+    Place, SymbolBinding, SymbolEntry, SymbolKind,
 };
 use link_names::{Name, Seq};
+use link_symbols::FirstDefinitions;
 use std::alloc::{AllocError, Global};
 use std::test::Fail;
 
@@ -150,5 +153,70 @@ fn references_stand_for_their_names(rt: HostRuntime) -> Result<(), Fail> {
         text.push_str(format!(in alloc; "{id} ")?.as_str())?;
     }
     assert_eq!(rt; text.as_str(), "0 0 4 0 4 0 7 7 ");
+    Ok(())
+}
+
+/// No name is mapped.
+struct NoNames;
+
+impl FirstDefinitions for NoNames {
+    ghost use Rattle.std.specs.Prelude.{None};
+
+    ghost mapping = { λ _ _. None };
+
+    fn first_definition(&self, _name: &[u8]) -> Option<SymbolId> {
+        None
+    }
+}
+
+/// A word without flags for each symbol.
+fn no_flags(alloc: Global, files: &Files<MachLike>) -> Result<PerSymbolFlags, AllocError>
+    requires { files.now.added ≡ [] }
+    ensures { IfOk result (λ flags. length (symbols_in files.now.groups) ≤ length (words_of flags)) }
+{
+    let mut flags = PerSymbolFlags::new(alloc);
+    let count = first_new(files).as_usize();
+    for _ in 0..count {
+        flags.push(ValueFlags::empty())?;
+    }
+    Ok(flags)
+}
+
+/// The flags of each symbol at the end.
+fn end_flags(alloc: Global, files: &Files<MachLike>) -> Result<PerSymbolFlags, Fail>
+    requires { files.now.added ≡ [] }
+{
+    let mut sections = Seq::new(alloc);
+    sections.push(Name::from_slice(alloc, b"data")?)?;
+    let left = left(alloc, files)?;
+    let asked = asked(alloc, files, left.as_slice(), sections.as_slice())?;
+    let table = end_table(alloc, files)?;
+    let mut flags = no_flags(alloc, files)?;
+    flag_undefined(
+        files,
+        left.as_slice(),
+        &NoNames,
+        &asked,
+        table.as_slice(),
+        OutputKind::StaticExecutable,
+        &mut flags,
+    )?;
+    Ok(flags)
+}
+
+#[test]
+fn what_stands_for_a_name_is_bound(rt: HostRuntime) -> Result<(), Fail> {
+    let alloc = rt.alloc();
+    let files = files(alloc)?;
+    let flags = end_flags(alloc, &files)?;
+    if flags.len() < 8 {
+        return Err(Fail::from("few words"));
+    }
+    let bound = ValueFlags::NON_INTERPOSABLE.raw();
+    let none = ValueFlags::empty().raw();
+    assert_eq!(rt;
+        flags.raw_range(SymbolIdRange::prelude(8)),
+        [none, none, none, none, bound, none, none, bound].as_slice()
+    );
     Ok(())
 }
