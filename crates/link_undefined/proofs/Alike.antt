@@ -1,5 +1,5 @@
 -- The last reference to each name and version, and the new symbols that are made for names.
-use Rattle.std.proofs.Common.{◌≡◌, ◌+◌, ◌<◌, ◌++◌, ◌∙◌, ◌&&◌, ℕ, List, [], ◌∷◌, Bool, true, false, Option, Some, None, cond, if◌then◌else◌, is_none, length, map, filter, option_map, position, slice_get, get_or, drop, reverse, append_assoc, refl, sym, ap, subst}
+use Rattle.std.proofs.Common.{◌≡◌, ◌+◌, ◌<◌, ◌++◌, ◌∙◌, ◌&&◌, ℕ, List, [], ◌∷◌, Bool, true, false, Option, Some, None, cond, if◌then◌else◌, is_none, length, map, filter, option_map, slice_get, get_or, drop, reverse, append_assoc, refl, sym, ap}
 use Rattle.std.specs.List.{last_or, position_from, cons_option}
 use Rattle.std.specs.Option.{option_or}
 use mathlib.Core.List.{reverse_aux}
@@ -13,7 +13,7 @@ use Rattle.link_undefined.specs.declared.asked_name.AskedName.{AskedName}
 use Rattle.link_undefined.specs.declared.name_ids.NameIds.{NameIds}
 use Rattle.link_undefined.specs.Boundaries.{is_mark_of, makers_by, makes_new}
 use Rattle.link_undefined.specs.Keys.{Asks, same_name, version_of}
-use Rattle.link_undefined.specs.NameIds.{Answers, id_in}
+use Rattle.link_undefined.specs.NameIds.{Answers}
 use Rattle.link_undefined.specs.Records.{numbered_at}
 
 -- the ids of those that ask for what the symbol does

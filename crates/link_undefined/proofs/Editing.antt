@@ -1,5 +1,5 @@
 -- Entries that are changed one after another are changed at once.
-use Rattle.std.proofs.Common.{◌≡◌, ◌+◌, ◌<◌, ◌∙◌, ◌++◌, ℕ, List, [], ◌∷◌, Bool, true, false, cond, if◌then◌else◌, length, map, filter, slice_index, slice_set, refl, sym, ap, subst, arith, append_assoc, length-append, zero, suc}
+use Rattle.std.proofs.Common.{◌≡◌, ◌+◌, ◌<◌, ◌∙◌, ◌++◌, ℕ, List, [], ◌∷◌, Bool, true, false, cond, if◌then◌else◌, length, filter, slice_index, slice_set, refl, sym, ap, subst, arith, append_assoc, length-append, suc}
 use Rattle.std.proofs.Math.Seq.{set-append_seam}
 use Rattle.std.specs.List.{enumerate_from}
 use Rattle.link_input.specs.Symbols.{Symbol}

@@ -1,5 +1,5 @@
 -- There are at most two new symbols for each custom section.
-use Rattle.std.proofs.Common.{◌≡◌, ◌+◌, ◌*◌, ◌<◌, ◌≤◌, ◌∙◌, ◌++◌, ◌&&◌, ◌||◌, ◌⊎◌, inl, inr, ℕ, List, [], ◌∷◌, Bool, true, false, Option, Some, None, All, cond, codes, filter, is_none, length, map, option_map, slice_get, slice_index, refl, sym, ap, subst, arith, zero, suc, eqb, reverse}
+use Rattle.std.proofs.Common.{◌≡◌, ◌+◌, ◌*◌, ◌<◌, ◌≤◌, ◌++◌, ◌&&◌, ◌||◌, ℕ, List, [], ◌∷◌, Bool, true, false, Option, Some, None, cond, codes, filter, is_none, length, map, option_map, slice_get, slice_index, refl, subst, arith, suc, eqb, reverse}
 use Rattle.std.specs.List.{cons_option}
 use Rattle.std.specs.List.Sorted.{IsStrictlyIncreasing}
 use Rattle.std.specs.Str.{bytes_eq}
@@ -12,7 +12,7 @@ use Rattle.link_rules.specs.Undefined.{Numbered}
 use Rattle.link_undefined.specs.declared.name_ids.NameIds.{NameIds}
 use Rattle.link_undefined.specs.Boundaries.{is_mark_of, makers_by, makes_new}
 use Rattle.link_undefined.specs.NameIds.{id_in}
-use Rattle.link_undefined.specs.Records.{AreSome, numbered_at}
+use Rattle.link_undefined.specs.Records.{numbered_at}
 
 -- ids from one on, in rising order
 abbrev Rises : ℕ → List ℕ → Type 0

@@ -1,13 +1,13 @@
 -- What undefined references and new symbols point to at the end.
-use Rattle.std.proofs.Common.{◌≡◌, ◌+◌, ◌∙◌, ◌++◌, ◌&&◌, ◌||◌, ℕ, List, [], ◌∷◌, Bool, true, false, not, Option, if◌then◌else◌, is_some, length, map, slice_index, unwrap_or, refl, sym, ap}
+use Rattle.std.proofs.Common.{◌≡◌, ◌+◌, ◌∙◌, ◌++◌, ◌&&◌, ◌||◌, ℕ, List, [], ◌∷◌, Bool, true, false, not, if◌then◌else◌, is_some, length, map, slice_index, unwrap_or, refl, ap}
 use Rattle.std.specs.Option.{option_or}
 use Rattle.link_input.specs.Symbols.{Symbol}
 use Rattle.link_rules.specs.Places.{each_from, is_number}
 use Rattle.link_rules.specs.Rivals.{versioned_entry, plain_table, versioned_table}
 use Rattle.link_rules.specs.Selection.{Selection}
-use Rattle.link_rules.specs.Undefined.{Numbered, boundary_makers, final_entry, final_table_over, last_alike, left_undefined, stays_undefined}
+use Rattle.link_rules.specs.Undefined.{Numbered, boundary_makers, final_entry, last_alike, left_undefined, stays_undefined}
 use Rattle.link_undefined.specs.declared.asked_names.AskedNames.{AskedNames}
-use Rattle.link_undefined.specs.Asked.{first_new_in, last_in, makers_in, new_in}
+use Rattle.link_undefined.specs.Asked.{first_new_in, makers_in}
 use Rattle.link_undefined.specs.Edited.{edited}
 use Rattle.link_undefined.specs.Pointed.{AreLeftOf, pointed}
 use Rattle.link_undefined.specs.Records.{numbered_at}

@@ -1,6 +1,5 @@
 -- Names with their versions as keys of a map.
 use Rattle.std.proofs.Common.{◌≡◌, ℕ, List, ◌&&◌, ◌∙◌, Bool, true, false, Ordering, Option, Some, None, Bor, if◌then◌else◌, refl, sym, ap, subst, is_some, not}
-use Rattle.std.specs.Bool.{Decides}
 use Rattle.std.specs.Option.{option_cmp, option_map, option_or}
 use Rattle.std.specs.declared.cmp.Ordering.TheVariants.{Less, Equal, Greater}
 use Rattle.std.specs.Ordering.{is_eq, nat_cmp, ordering_then}

@@ -1,9 +1,9 @@
 -- Symbols by their ids.
-use Rattle.std.proofs.Common.{◌≡◌, ◌+◌, ◌<◌, ◌≤◌, ◌++◌, ℕ, List, [], ◌∷◌, All, Bool, true, false, Option, Some, None, length, map, filter, reverse, option_map, slice_get, refl, sym, ◌∙◌, ap, subst, cond, arith, slice_index, zero, suc}
+use Rattle.std.proofs.Common.{◌≡◌, ◌+◌, ◌<◌, ◌≤◌, ℕ, List, [], ◌∷◌, All, Bool, true, false, Option, Some, None, length, map, filter, reverse, option_map, slice_get, refl, sym, ◌∙◌, ap, subst, cond, arith, zero, suc}
 use mathlib.Core.List.{reverse_aux}
 use Rattle.std.specs.List.{enumerate_from, cons_option}
 use Rattle.std.specs.List.Sorted.{IsStrictlyIncreasing}
-use Rattle.std.proofs.lemmas.List.Elements.{All-from_recursion, All-nil, All-cons}
+use Rattle.std.proofs.lemmas.List.Elements.{All-nil, All-cons}
 use Rattle.std.proofs.lemmas.Option.{slice_get_within}
 use Rattle.link_input.specs.Symbols.{Symbol}
 use Rattle.link_rules.specs.Undefined.{Numbered}

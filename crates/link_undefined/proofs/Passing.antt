@@ -1,5 +1,5 @@
 -- What undefined references have for themselves and pass to others makes the flags at the end.
-use Rattle.std.proofs.Common.{◌≡◌, ◌≢◌, ◌+◌, ◌<◌, ◌≤◌, ◌∙◌, ◌++◌, ℕ, List, [], ◌∷◌, Bool, true, false, Option, Some, None, if◌then◌else◌, eqb, filter, length, map, slice_get, slice_index, slice_set, append_assoc, drop, get_or, refl, sym, ap, subst, arith, zero, suc, bit_or}
+use Rattle.std.proofs.Common.{◌≡◌, ◌≢◌, ◌+◌, ◌<◌, ◌≤◌, ◌∙◌, ◌++◌, ℕ, List, [], ◌∷◌, Bool, true, false, Option, Some, None, if◌then◌else◌, eqb, length, map, slice_get, slice_index, slice_set, append_assoc, drop, get_or, refl, sym, ap, subst, arith, suc, bit_or}
 use Rattle.std.specs.Prelude.{fold}
 use Rattle.std.specs.Int.Bits.{or_zero_l, or_zero_r}
 use Rattle.std.specs.Option.{option_map_or}
@@ -19,7 +19,7 @@ use Rattle.link_rules.specs.Marking.{visibility_flags}
 use Rattle.link_rules.specs.Names.{Mapping}
 use Rattle.link_rules.specs.Places.{each_from, is_number}
 use Rattle.link_rules.specs.Selection.{Selection}
-use Rattle.link_rules.specs.Undefined.{Numbered, Resolution, final_table_over, left_undefined, resolution_from, stays_undefined}
+use Rattle.link_rules.specs.Undefined.{Numbered, Resolution, left_undefined, resolution_from, stays_undefined}
 use Rattle.link_rules.specs.Visibility.{narrowed_flags}
 use Rattle.link_rules.specs.World.{Stage, is_shared_at}
 use Rattle.link_undefined.specs.declared.asked_names.AskedNames.{AskedNames}

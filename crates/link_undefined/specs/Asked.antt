@@ -3,7 +3,7 @@ use Rattle.std.specs.Prelude.{ℕ, ◌≡◌, List, Option, length, map}
 use Rattle.std.specs.Option.{option_or}
 use Rattle.link_input.specs.Symbols.{Symbol}
 use Rattle.link_rules.specs.Places.{Bytes}
-use Rattle.link_rules.specs.Undefined.{Numbered, boundary_makers, canonical_undefined, last_alike, new_symbol}
+use Rattle.link_rules.specs.Undefined.{Numbered, boundary_makers, last_alike, new_symbol}
 use Rattle.link_rules.specs.World.{Stage}
 use Rattle.link_undefined.specs.declared.asked_names.AskedNames.{AskedNames}
 use Rattle.link_undefined.specs.declared.boundaries.SectionMarks.{SectionMarks}

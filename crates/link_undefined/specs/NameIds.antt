@@ -5,11 +5,11 @@ use Rattle.link_input.specs.Symbols.{Symbol}
 use Rattle.link_rules.specs.Places.{Bytes}
 use Rattle.link_undefined.specs.declared.asked_name.AskedName.{AskedName}
 use Rattle.link_undefined.specs.declared.name_ids.NameIds.{NameIds}
-use Rattle.link_undefined.specs.Keys.{same_name, version_of}
+use Rattle.link_undefined.specs.Keys.{name_of, same_name, version_of}
 
 -- it asks for this name and version
 abbrev pub is_asked : Bytes → Option Bytes → AskedName → Bool
-is_asked name version asked = same_name name version asked.name.now (version_of asked)
+is_asked name version asked = same_name name version (name_of asked) (version_of asked)
 
 -- what is noted of a name and version
 abbrev pub id_in : NameIds → Bytes → Option Bytes → Option ℕ

@@ -17,11 +17,11 @@ pub struct AskedName<'a> {
 }
 
 impl<'a> AskedName<'a> {
-    ghost use Rattle.link_undefined.specs.Keys.{Asks, version_of};
+    ghost use Rattle.link_undefined.specs.Keys.{Asks, name_of, version_of};
 
     /// This name and version.
     pub fn new(name: NameView<'a>, version: Option<NameView<'a>>) -> Self
-        ensures name { result.name.now ≡ name.entry }
+        ensures name { name_of result ≡ name.entry }
         ensures version { version_of result ≡ version.entry }
     {
         AskedName {

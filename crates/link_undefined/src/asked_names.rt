@@ -34,7 +34,7 @@ impl<'a> AskedNames<'a> {
     ghost use Rattle.link_rules.specs.World.{Stage};
     ghost use Rattle.link_input.specs.Symbols.{Symbol};
     ghost use Rattle.link_undefined.specs.Asked.{AreAsked, IsStageOf, canonical_in, first_new_in, last_in, makers_in, new_in};
-    ghost use Rattle.link_undefined.specs.Keys.{Asks, version_of};
+    ghost use Rattle.link_undefined.specs.Keys.{Asks, name_of, version_of};
     ghost use Rattle.link_undefined.specs.Records.{AreSome, numbered_at};
 
     /// What these references ask for, which stay undefined. New symbols are made for the starts and ends of these sections, the first with the
@@ -66,7 +66,7 @@ impl<'a> AskedNames<'a> {
 
     /// The last reference that asks for this.
     pub fn last(&self, asked: AskedName<'a>) -> Option<SymbolId>
-        ensures { result ≡ last_in self.now asked.entry.name.now (version_of asked.entry) }
+        ensures { result ≡ last_in self.now (name_of asked.entry) (version_of asked.entry) }
     {
         match self.last.get(asked) {
             Some(id) => Some(SymbolId::from_usize(id as usize)),
@@ -76,7 +76,7 @@ impl<'a> AskedNames<'a> {
 
     /// The new symbol that is made for this.
     pub fn new_symbol(&self, asked: AskedName<'a>) -> Option<SymbolId>
-        ensures { result ≡ new_in self.now asked.entry.name.now (version_of asked.entry) }
+        ensures { result ≡ new_in self.now (name_of asked.entry) (version_of asked.entry) }
     {
         match self.made.get(asked) {
             Some(id) => Some(SymbolId::from_usize(id as usize)),
@@ -86,7 +86,7 @@ impl<'a> AskedNames<'a> {
 
     /// What stands for this: the new symbol, else the last reference.
     pub fn canonical(&self, asked: AskedName<'a>) -> Option<SymbolId>
-        ensures { result ≡ canonical_in self.now asked.entry.name.now (version_of asked.entry) }
+        ensures { result ≡ canonical_in self.now (name_of asked.entry) (version_of asked.entry) }
     {
         self.new_symbol(asked).or(self.last(asked))
     }

@@ -5,7 +5,7 @@ ghost use Rattle.link_files.specs.GroupFiles.{symbols_in};
 ghost use Rattle.link_rules.specs.Places.{Bytes, is_number};
 ghost use Rattle.link_rules.specs.Undefined.{asks_same, last_alike};
 ghost use Rattle.link_undefined.specs.Boundaries.{Marks, is_mark_of, makers_by, makes_new};
-ghost use Rattle.link_undefined.specs.Keys.{version_of};
+ghost use Rattle.link_undefined.specs.Keys.{name_of, version_of};
 ghost use Rattle.link_undefined.specs.NameIds.{Answers};
 ghost use Rattle.link_undefined.specs.Records.{numbered_at};
 
@@ -45,7 +45,7 @@ fn is_id(found: Option<u32>, id: SymbolId) -> bool
 
 /// Whether a plain name is asked for that marks the start or the end of a custom section.
 fn is_boundary(marks: &SectionMarks, asked: AskedName) -> bool
-    ensures { (sections : List Bytes) → Marks marks.now sections → result ≡ is_none (version_of asked.entry) && is_mark_of sections asked.entry.name.now }
+    ensures { (sections : List Bytes) → Marks marks.now sections → result ≡ is_none (version_of asked.entry) && is_mark_of sections (name_of asked.entry) }
 {
     asked.is_plain() && marks.contains(asked.name)
 }
@@ -57,7 +57,7 @@ pub(crate) fn is_maker<'a>(
     asked: AskedName<'a>,
     id: SymbolId,
 ) -> bool
-    ensures { (sections : List Bytes) → Marks marks.now sections → result ≡ makes_new sections last.now asked.entry.name.now (version_of asked.entry) id }
+    ensures { (sections : List Bytes) → Marks marks.now sections → result ≡ makes_new sections last.now (name_of asked.entry) (version_of asked.entry) id }
 {
     is_boundary(marks, asked) && is_id(last.get(asked), id)
 }

@@ -17,7 +17,7 @@ pub struct NameIds<'a> {
 
 impl<'a> NameIds<'a> {
     ghost use Rattle.link_undefined.specs.NameIds.{id_in};
-    ghost use Rattle.link_undefined.specs.Keys.{version_of};
+    ghost use Rattle.link_undefined.specs.Keys.{name_of, version_of};
 
     /// Nothing noted. Takes no memory.
     pub fn new(alloc: Global) -> Self
@@ -30,7 +30,7 @@ impl<'a> NameIds<'a> {
 
     /// Notes the id, in place of what was noted of the name.
     pub fn note(&mut self, asked: AskedName<'a>, id: u32) -> Result<(), AllocError>
-        ensures { OnOk result ((name : List ℕ) → (version : Option (List ℕ)) → id_in self.new name version ≡ (if same_name asked.entry.name.now (version_of asked.entry) name version then Some id else id_in self.old name version)) }
+        ensures { OnOk result ((name : List ℕ) → (version : Option (List ℕ)) → id_in self.new name version ≡ (if same_name (name_of asked.entry) (version_of asked.entry) name version then Some id else id_in self.old name version)) }
     {
         self.ids.insert(asked, id)?;
         Ok(())
@@ -38,7 +38,7 @@ impl<'a> NameIds<'a> {
 
     /// Notes the id, where nothing was noted of the name.
     pub fn note_first(&mut self, asked: AskedName<'a>, id: u32) -> Result<(), AllocError>
-        ensures { OnOk result ((name : List ℕ) → (version : Option (List ℕ)) → id_in self.new name version ≡ option_or (id_in self.old name version) (if same_name asked.entry.name.now (version_of asked.entry) name version then Some id else None)) }
+        ensures { OnOk result ((name : List ℕ) → (version : Option (List ℕ)) → id_in self.new name version ≡ option_or (id_in self.old name version) (if same_name (name_of asked.entry) (version_of asked.entry) name version then Some id else None)) }
     {
         if self.get(asked).is_none() {
             self.note(asked, id)?;
@@ -48,7 +48,7 @@ impl<'a> NameIds<'a> {
 
     /// What is noted of the name.
     pub fn get(&self, asked: AskedName<'a>) -> Option<u32>
-        ensures { result ≡ id_in self.now asked.entry.name.now (version_of asked.entry) }
+        ensures { result ≡ id_in self.now (name_of asked.entry) (version_of asked.entry) }
     {
         self.ids.get(&asked).copied()
     }

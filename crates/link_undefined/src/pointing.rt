@@ -9,7 +9,7 @@ ghost use Rattle.link_rules.specs.Selection.{Selection};
 ghost use Rattle.link_rules.specs.Undefined.{final_entry, final_table_over, left_undefined};
 ghost use Rattle.link_undefined.specs.Asked.{last_in};
 ghost use Rattle.link_undefined.specs.Edited.{edited};
-ghost use Rattle.link_undefined.specs.Keys.{Asks, version_of};
+ghost use Rattle.link_undefined.specs.Keys.{Asks, name_of, version_of};
 ghost use Rattle.link_undefined.specs.Pointed.{AreLeftOf, pointed};
 ghost use Rattle.link_undefined.specs.Records.{AreSome, numbered_at};
 
@@ -22,7 +22,7 @@ use std::alloc::{AllocError, Global};
 
 /// Whether the reference of this id is the last that asks for its name and version, and asks for a version.
 fn keeps_entry<'a>(asked: &AskedNames<'a>, name: AskedName<'a>, id: SymbolId) -> bool
-    ensures { result ≡ (is_some (version_of name.entry) && is_number (last_in asked.now name.entry.name.now (version_of name.entry)) id) }
+    ensures { result ≡ (is_some (version_of name.entry) && is_number (last_in asked.now (name_of name.entry) (version_of name.entry)) id) }
 {
     !name.is_plain() && asked.last(name) == Some(id)
 }

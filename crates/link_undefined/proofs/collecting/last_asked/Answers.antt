@@ -1,4 +1,4 @@
-use Rattle.std.proofs.Common.{◌≡◌, ◌∙◌, ◌+◌, ℕ, List, Some, [], ap, drop, if◌then◌else◌, sym, subst, arith}
+use Rattle.std.proofs.Common.{◌≡◌, ◌∙◌, ◌+◌, ℕ, List, Some, [], ap, drop, if◌then◌else◌, sym, arith}
 use Rattle.std.specs.List.{last_or}
 use Rattle.std.proofs.lemmas.Grind.{common_steps}
 use Rattle.link_files.specs.GroupFiles.{symbols_in}

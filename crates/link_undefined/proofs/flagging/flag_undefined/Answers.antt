@@ -1,4 +1,4 @@
-use Rattle.std.proofs.Common.{◌≡◌, ◌∙◌, ℕ, ap, arith, length, length-append, map}
+use Rattle.std.proofs.Common.{◌∙◌, ℕ, ap, arith, length, length-append, map}
 use Rattle.std.proofs.lemmas.List.{length-map}
 use Rattle.link_flags.specs.FlagBits as flag
 use Rattle.link_flags.specs.FlagWords.{words_of}

@@ -1,4 +1,4 @@
-use Rattle.std.proofs.Common.{◌≡◌, ◌≤◌, ◌∙◌, Some, arith, length, map, sym}
+use Rattle.std.proofs.Common.{◌≡◌, ◌≤◌, ◌∙◌, Some, arith, length, sym}
 use Rattle.std.proofs.lemmas.List.{length-map}
 use Rattle.link_files.specs.GroupFiles.{symbols_in}
 use Rattle.link_flags.specs.FlagWords.{words_of}

@@ -1,4 +1,4 @@
-use Rattle.std.proofs.Common.{◌≡◌, drop, length}
+use Rattle.std.proofs.Common.{◌≡◌, drop}
 use Rattle.link_files.specs.GroupFiles.{symbols_in}
 use Rattle.link_undefined.specs.Edited.{edited}
 use Rattle.link_undefined.specs.Pointed.{pointed}

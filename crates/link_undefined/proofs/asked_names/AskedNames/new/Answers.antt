@@ -1,4 +1,4 @@
-use Rattle.std.proofs.Common.{◌≡◌, ◌∙◌, ◌^◌, ap, length, map, subst, sym}
+use Rattle.std.proofs.Common.{◌∙◌, ◌^◌, ap, length, map, subst, sym}
 use Rattle.link_files.specs.GroupFiles.{symbols_in}
 use Rattle.link_rules.specs.Undefined.{Numbered}
 use Rattle.link_undefined.specs.Boundaries.{Marks}

@@ -1,4 +1,4 @@
-use Rattle.std.proofs.Common.{◌≡◌, ◌∙◌, false, true, is_some, is_none, None, sym, ap}
+use Rattle.std.proofs.Common.{◌≡◌, ◌∙◌, true, is_some, None, sym, ap}
 use Rattle.link_undefined.specs.Keys.{version_of}
 use Rattle.link_undefined.specs.NameIds.{id_in}
 use Rattle.link_undefined.proofs.Naming.{kept_first, noted_first, none_where}
