@@ -1,0 +1,22 @@
+//! The references that stay undefined, and what stands for them.
+#![tactic(auto)]
+
+mod asked_name;
+mod asked_names;
+mod boundaries;
+mod collecting;
+mod flagging;
+mod laws;
+mod name_ids;
+mod pointing;
+mod reference;
+mod references;
+#[cfg(test)]
+mod tests;
+
+pub use asked_name::AskedName;
+pub use asked_names::AskedNames;
+pub use flagging::{flag_references, flag_undefined};
+pub use laws::signatures_are_left;
+pub use pointing::{point_references, point_undefined};
+pub use references::references_left;
