@@ -109,24 +109,26 @@ fn known(alloc: Global, count: usize, strength: SymbolStrength) -> Result<Resolv
     Ok(Resolved::new(Vec::new(alloc), Vec::new(alloc), strengths))
 }
 
-/// What the last symbol means, or the lines of a refusal.
-fn shown(alloc: Global, answer: Result<SymbolDb<ElfLike>, LinkError>) -> Result<String, AllocError>
-    requires { IfOk answer (λ db. HasTable (seen db)) }
+/// What the last symbol means.
+fn meaning(alloc: Global, db: &SymbolDb<ElfLike>) -> Result<String, AllocError>
+    requires { HasTable (seen db.now) }
 {
-    match answer {
-        Ok(db) => {
-            let last = db.num_symbols().saturating_sub(1);
-            if last < db.num_symbols() {
-                format!(in alloc; "{}", db.definition(SymbolId::from_usize(last)))
-            } else {
-                format!(in alloc; "no symbols")
-            }
-        }
-        Err(LinkError::DuplicateSymbols(lines)) => match lines.as_slice().first() {
+    let count = db.num_symbols();
+    if count == 0 {
+        return format!(in alloc; "no symbols");
+    }
+    let last = SymbolId::from_usize(count - 1);
+    format!(in alloc; "{}", db.definition(last))
+}
+
+/// The first line of a refusal.
+fn line(alloc: Global, error: &LinkError) -> Result<String, AllocError> {
+    match error {
+        LinkError::DuplicateSymbols(lines) => match lines.as_slice().first() {
             Some(line) => format!(in alloc; "{line}"),
             None => format!(in alloc; "no line"),
         },
-        Err(_) => format!(in alloc; "another cause"),
+        _ => format!(in alloc; "another cause"),
     }
 }
 
@@ -142,8 +144,10 @@ fn settled(
     requires flags { length (words_of flags.old) ≡ length (symbol_names (seen db)) }
 {
     let resolved = known(alloc, db.num_symbols(), strength)?;
-    let answer = resolve_alternative_symbol_definitions(alloc, db, flags, &resolved);
-    shown(alloc, answer)
+    match resolve_alternative_symbol_definitions(alloc, db, flags, &resolved) {
+        Ok(db) => meaning(alloc, &db),
+        Err(error) => line(alloc, &error),
+    }
 }
 
 /// The same of the symbols of two objects.
