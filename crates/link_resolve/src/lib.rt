@@ -5,6 +5,8 @@ mod duplicates;
 mod lists;
 mod resolved;
 mod rivals;
+#[cfg(test)]
+mod tests;
 
 pub use resolved::{Resolved, resolved_symbol_strength};
 pub use rivals::resolve_alternative_symbol_definitions;
