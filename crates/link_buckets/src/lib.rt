@@ -10,8 +10,6 @@ mod label;
 mod laws;
 mod mapped_labels;
 mod places;
-#[cfg(test)]
-mod tests;
 
 pub use bucket::Bucket;
 pub use buckets::Buckets;

@@ -17,8 +17,6 @@ mod rust_form;
 mod rust_script;
 mod showing;
 mod synthetic;
-#[cfg(test)]
-mod tests;
 mod wrapping;
 
 pub use database::SymbolDb;

@@ -8,7 +8,5 @@ mod removing;
 mod search;
 mod starts;
 mod symbol_queries;
-#[cfg(test)]
-mod tests;
 
 pub use files::Files;

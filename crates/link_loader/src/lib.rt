@@ -5,8 +5,6 @@
 mod opening;
 mod reading;
 mod scripts;
-#[cfg(test)]
-mod tests;
 mod texts;
 
 pub use opening::{

@@ -9,8 +9,6 @@ mod parts;
 mod restoring;
 mod symbol_mapping;
 mod synthetic;
-#[cfg(test)]
-mod tests;
 mod wrapping;
 
 pub use mapped_names::MappedNames;

@@ -8,8 +8,6 @@ mod groups;
 mod listing;
 mod loader;
 mod read_symbols;
-#[cfg(test)]
-mod tests;
 
 pub use group::read_group;
 pub use groups::read_groups;

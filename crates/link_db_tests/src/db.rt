@@ -5,7 +5,7 @@ ghost use Rattle.link_flags.specs.FlagWords.{words_of};
 ghost use Rattle.link_db.specs.Database.{HasTable};
 ghost use Rattle.link_db.specs.Seen.{seen};
 
-use crate::{SymbolDb, SymbolKey};
+use link_db::{SymbolDb, SymbolKey};
 use link_flags::{PerSymbolFlags, Visibility};
 use link_ids::SymbolId;
 use link_input::{

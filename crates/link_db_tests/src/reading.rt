@@ -3,7 +3,6 @@
 ghost use Rattle.std.specs.Prelude.{IfOk};
 ghost use Rattle.link_reading.specs.Files.{AllCanBeRead};
 
-use crate::{ReadSymbols, read_groups};
 use link_flags::Visibility;
 use link_groups::{Group, create_groups};
 use link_input::{
@@ -12,6 +11,7 @@ use link_input::{
 };
 use link_loader::TextRules;
 use link_names::{Name, Seq};
+use link_reading::{ReadSymbols, read_groups};
 use link_script::Plain;
 use std::alloc::{AllocError, Global};
 use std::test::Fail;

@@ -2,7 +2,7 @@ use Rattle.std.proofs.Common.{ℕ}
 use Rattle.std.specs.Prelude.{option_map, slice_get}
 use Rattle.link_buckets.specs.declared.label.Label.TheVariants.{Plain, Versioned, Added}
 use Rattle.link_buckets.specs.Buckets.{AreKeyed}
-use Rattle.link_buckets.proofs.tests.calls_change_one_name.Given as goal
+use Rattle.link_db_tests.proofs.buckets.calls_change_one_name.Given as goal
 
 abbrev pub invariant-loop-call : goal.invariant-loop-call
 invariant-loop-call g l =

@@ -3,7 +3,7 @@ use Rattle.link_input.specs.InputFiles.{batch_of}
 use Rattle.link_groups.specs.declared.group.Group.{Group}
 use Rattle.link_files.specs.GroupFiles.{AreGroupsOfLink}
 use Rattle.link_files.specs.HeldFiles.{HeldFiles}
-use Rattle.link_files.proofs.tests.each_symbol_is_found.Goals as goal
+use Rattle.link_db_tests.proofs.files.each_symbol_is_found.Goals as goal
 
 pub add_groups-requires : goal.add_groups-requires
 add_groups-requires g c =

@@ -2,7 +2,7 @@ use Rattle.std.proofs.Common.{ℕ}
 use Rattle.std.specs.Prelude.{option_map, slice_get}
 use Rattle.link_buckets.specs.declared.label.Label.TheVariants.{Plain, Versioned, Added}
 use Rattle.link_buckets.specs.Buckets.{AreHashed}
-use Rattle.link_buckets.proofs.tests.definitions.Given as goal
+use Rattle.link_db_tests.proofs.buckets.definitions.Given as goal
 
 abbrev pub invariant-loop-entry : goal.invariant-loop-entry
 invariant-loop-entry l =

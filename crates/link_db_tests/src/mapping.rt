@@ -5,7 +5,6 @@ ghost use Rattle.link_files.specs.Adding.{EndsInSynthetic};
 ghost use Rattle.link_files.specs.HeldFiles.{names_in};
 ghost use Rattle.link_mapping.specs.Seen.{seen};
 
-use crate::SymbolMapping;
 use link_flags::Visibility;
 use link_groups::create_groups;
 use link_input::{
@@ -13,6 +12,7 @@ use link_input::{
     Place, Scripts, SymbolBinding, SymbolEntry, SymbolKind,
 };
 use link_loader::TextRules;
+use link_mapping::SymbolMapping;
 use link_names::{Name, Seq, hash_bytes};
 use link_reading::read_groups;
 use link_script::Plain;

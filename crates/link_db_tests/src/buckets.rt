@@ -7,7 +7,7 @@ ghost use Rattle.link_buckets.specs.declared.label.Label.TheVariants.{Plain, Ver
 ghost use Rattle.link_buckets.specs.Buckets.{AreKeyed, AreHashed};
 ghost use Rattle.link_buckets.specs.Keys.{key_of, number_of, same_key};
 
-use crate::{Buckets, Definition, Definitions, Label, Names};
+use link_buckets::{Buckets, Definition, Definitions, Label, Names};
 use link_names::{Name, hash_bytes};
 use std::alloc::{AllocError, Global};
 use std::test::Fail;

@@ -1,6 +1,6 @@
 use Rattle.std.proofs.Common.{[], ap, arith}
 use Rattle.link_db.specs.Database.{Database}
-use Rattle.link_db.proofs.tests.with_inputs.Goals as goal
+use Rattle.link_db_tests.proofs.db.with_inputs.Goals as goal
 
 -- no batch was added before
 pub add_inputs-requires-clause-held : goal.add_inputs-requires-clause-held

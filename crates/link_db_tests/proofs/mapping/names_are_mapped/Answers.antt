@@ -15,7 +15,7 @@ use Rattle.link_mapping.specs.Mapped.{Mapped}
 use Rattle.link_mapping.specs.Parts.{definitions_in}
 use Rattle.link_mapping.proofs.Batches.{read_behind}
 use Rattle.link_mapping.proofs.Synthetics.{ends_in_group}
-use Rattle.link_mapping.proofs.tests.names_are_mapped.Goals as goal
+use Rattle.link_db_tests.proofs.mapping.names_are_mapped.Goals as goal
 
 pub read_groups-requires-after_bounds : goal.read_groups-requires-after_bounds
 read_groups-requires-after_bounds g c κs =

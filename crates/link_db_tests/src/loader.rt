@@ -1,11 +1,11 @@
 //! That texts are read where memory is ample, and the flags of a table of symbols. Which ones they are is in the contracts.
 
-use crate::{TextRules, flags_of_row};
 use link_flags::Visibility;
 use link_input::{
     ElfLike, MachLike, Options, OutputKind, Place, Platform, ProcessedLinkerScript, Scripts,
     SymbolBinding, SymbolEntry, SymbolKind,
 };
+use link_loader::{TextRules, flags_of_row};
 use link_names::{Name, Seq};
 use link_rules::LinkError;
 use link_script::Plain;

@@ -1,6 +1,6 @@
 //! That files are held and symbols added where memory is ample, and each symbol is found.
 
-use crate::Files;
+use link_files::Files;
 use link_flags::Visibility;
 use link_groups::create_groups;
 use link_ids::SymbolId;
