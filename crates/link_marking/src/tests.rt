@@ -8,16 +8,20 @@ use link_names::Seq;
 use std::alloc::{AllocError, Global};
 use std::test::Fail;
 
+/// No file.
+fn inputs(alloc: Global) -> Result<Inputs<MachLike>, Fail> {
+    Ok(Inputs {
+        objects: Seq::new(alloc),
+        scripts: Seq::new(alloc),
+        stubs: Seq::new(alloc),
+    })
+}
+
 /// The files of a link that is given none: the prelude, with the undefined symbol.
 fn files(alloc: Global) -> Result<Files<MachLike>, Fail> {
     let options = Options::new(alloc);
     let mut files = Files::new(alloc);
-    let inputs = Inputs {
-        objects: Seq::new(alloc),
-        scripts: Seq::new(alloc),
-        stubs: Seq::new(alloc),
-    };
-    let groups = create_groups(alloc, &options, files.groups(), inputs, 2)?;
+    let groups = create_groups(alloc, &options, files.groups(), inputs(alloc)?, 2)?;
     files.add_groups(alloc, groups)?;
     Ok(files)
 }
