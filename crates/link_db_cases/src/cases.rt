@@ -25,6 +25,21 @@ fn write_words(text: &mut String, words: &[&[u8]], behind: &str) -> Result<(), A
     text.push_str(behind)
 }
 
+/// Answers what a line asks, if it was no change, and ends the line.
+fn end_line<P: Platform>(
+    alloc: Global,
+    text: &mut String,
+    link: &Link<P>,
+    words: &[&[u8]],
+    is_change: bool,
+) -> Result<(), Fault> {
+    if is_change || answer(alloc, text, link, words)? {
+        Ok(text.push_str("\n")?)
+    } else {
+        Err(Fault::Line)
+    }
+}
+
 /// Does what a line says: it tells a file of the next batch, or is a call, which is written with its answer.
 fn do_line<R: Threads + Sync, P: Platform + Sync>(
     rt: &R,
@@ -41,11 +56,8 @@ fn do_line<R: Threads + Sync, P: Platform + Sync>(
         return Ok(());
     }
     write_words(text, words, "-> ")?;
-    if change(rt, alloc, text, link, files, words)? || answer(alloc, text, link, words)? {
-        Ok(text.push_str("\n")?)
-    } else {
-        Err(Fault::Line)
-    }
+    let is_change = change(rt, alloc, text, link, files, words)?;
+    end_line(alloc, text, link, words, is_change)
 }
 
 /// Does what the lines behind `new` say. One that can't be done is written once more, behind a question mark.
