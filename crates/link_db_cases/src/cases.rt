@@ -12,6 +12,7 @@ use crate::setup::Setup;
 use crate::words::lines_of;
 use link_input::{ElfLike, MachLike, Platform};
 use link_names::NameView;
+use link_rules::LinkError;
 use std::alloc::{AllocError, Global};
 use std::fmt::Write;
 use std::thread::Threads;
@@ -65,21 +66,30 @@ fn do_lines<R: Threads + Sync, P: Platform + Sync>(
     rt: &R,
     alloc: Global,
     text: &mut String,
-    link: &mut Link<P>,
+    link: Link<P>,
     lines: &[Vec<&[u8]>],
 ) -> Result<(), Fault>
-    requires { IsAtStage link.old }
+    requires { IsAtStage link }
 {
+    text.push_str("new -> done\n")?;
+    let mut link = link;
     let mut files = Gathered::new(alloc);
     for words in lines {
         let words = words.as_slice();
-        if let Err(fault) = do_line(rt, alloc, text, link, &mut files, words) {
+        if let Err(fault) = do_line(rt, alloc, text, &mut link, &mut files, words) {
             text.push_str("\n? ")?;
             write_words(text, words, "\n")?;
             return Err(fault);
         }
     }
     Ok(())
+}
+
+/// Writes why there is no link.
+fn write_refused(alloc: Global, text: &mut String, error: LinkError) -> Result<(), Fault> {
+    text.push_str("new -> ")?;
+    write_outcome(text, alloc, Err(error))?;
+    Ok(text.push_str("\n")?)
 }
 
 /// What the lines before `new` say.
@@ -99,21 +109,12 @@ fn do_case<R: Threads + Sync, P: Platform + Sync>(
     setup: Setup,
     lines: &[Vec<&[u8]>],
 ) -> Result<(), Fault> {
-    let group = setup.options.files_per_group;
-    if setup.workers < 1 || setup.workers > 256 || group < 1 || group > 256 {
+    if !setup.is_within_limits() {
         return Err(Fault::Limits);
     }
-    text.push_str("new -> ")?;
     match Link::<P>::new(alloc, setup) {
-        Ok(link) => {
-            let mut link = link;
-            text.push_str("done\n")?;
-            do_lines(rt, alloc, text, &mut link, lines)
-        }
-        Err(error) => {
-            write_outcome(text, alloc, Err(error))?;
-            Ok(text.push_str("\n")?)
-        }
+        Ok(link) => do_lines(rt, alloc, text, link, lines),
+        Err(error) => write_refused(alloc, text, error),
     }
 }
 

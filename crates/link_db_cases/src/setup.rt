@@ -1,5 +1,7 @@
 //! Lines that tell what a link is given beside its files.
 
+ghost use Rattle.std.specs.Prelude.{◌≤◌, IsTrue};
+
 use crate::definitions::definition_of;
 use crate::fault::Fault;
 use crate::words::{key_and_value, listed, number_of, unescaped};
@@ -81,5 +83,14 @@ impl Setup {
             _ => return Err(Fault::Line),
         }
         Ok(())
+    }
+
+    /// Workers, and objects of a group, are 1 to 256.
+    pub fn is_within_limits(&self) -> bool
+        ensures workers { IsTrue result → (1 ≤ self.now.workers) × (self.now.workers ≤ 256) }
+        ensures files { IsTrue result → (1 ≤ self.now.options.files_per_group) × (self.now.options.files_per_group ≤ 256) }
+    {
+        let group = self.options.files_per_group;
+        1 <= self.workers && self.workers <= 256 && 1 <= group && group <= 256
     }
 }

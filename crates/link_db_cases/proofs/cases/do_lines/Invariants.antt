@@ -2,4 +2,4 @@ use Rattle.link_db_cases.specs.Staged.{IsAtStage}
 use Rattle.link_db_cases.proofs.cases.do_lines.Given as goal
 
 abbrev pub invariant-loop-words : goal.invariant-loop-words
-invariant-loop-words l = IsAtStage l.link
+invariant-loop-words g l = IsAtStage l.link
