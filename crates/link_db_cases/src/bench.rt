@@ -1,6 +1,6 @@
 //! The time that a batch takes, beside that of a plain map of the same names.
 
-ghost use Rattle.std.specs.Prelude.{◌≤◌, IfOk};
+ghost use Rattle.link_db_cases.specs.Staged.{IsAtStage};
 
 use crate::fault::Fault;
 use crate::link::Link;
@@ -91,28 +91,55 @@ fn time_map<R: Clock + Eprint>(
 }
 
 /// Adds the objects to a database as one batch, and looks each name up.
-fn time_link<R: Threads + Sync + Clock + Eprint>(
+fn time_batch<R: Threads + Sync + Clock + Eprint>(
     rt: &R,
     alloc: Global,
+    start: Instant,
+    link: &mut Link<ElfLike>,
     files: Inputs<ElfLike>,
-    workers: usize,
 ) -> Result<(usize, u32), Fault>
-    requires { (1 ≤ workers) × (workers ≤ 256) }
+    requires { IsAtStage link.old }
 {
-    let mut setup = Setup::new(alloc);
-    setup.workers = workers;
-    let start = Instant::now(rt)?;
-    let Ok(link) = Link::new(alloc, setup) else {
-        return Err(Fault::Memory);
-    };
-    let mut link = link;
     if link.add(rt, alloc, files)?.is_err() {
         return Err(Fault::Memory);
     }
     let start = lap(rt, start, "added")?;
-    let found = found_in_link(&link);
+    let found = found_in_link(link);
     lap(rt, start, "looked up")?;
     Ok((link.db.num_symbols(), found))
+}
+
+/// Adds the objects to this database.
+fn time_link<R: Threads + Sync + Clock + Eprint>(
+    rt: &R,
+    alloc: Global,
+    start: Instant,
+    link: Link<ElfLike>,
+    files: Inputs<ElfLike>,
+) -> Result<(usize, u32), Fault>
+    requires { IsAtStage link }
+{
+    let mut link = link;
+    time_batch(rt, alloc, start, &mut link, files)
+}
+
+/// Makes a database, and adds the objects.
+fn time_new_link<R: Threads + Sync + Clock + Eprint>(
+    rt: &R,
+    alloc: Global,
+    files: Inputs<ElfLike>,
+    workers: usize,
+) -> Result<(usize, u32), Fault> {
+    let mut setup = Setup::new(alloc);
+    setup.workers = workers;
+    if !setup.is_within_limits() {
+        return Err(Fault::Limits);
+    }
+    let start = Instant::now(rt)?;
+    match Link::new(alloc, setup) {
+        Ok(link) => time_link(rt, alloc, start, link, files),
+        Err(_) => Err(Fault::Memory),
+    }
 }
 
 /// What is to be timed: a kind, how many symbols each object has, how many objects, and how many workers.
@@ -124,15 +151,13 @@ struct Task {
 }
 
 /// The task that words tell: `map` or `db`, the number of all symbols, that of objects, and that of workers.
-fn task_of(words: &[&[u8]]) -> Result<Task, Fault>
-    ensures { IfOk result (λ task. (1 ≤ task.workers) × (task.workers ≤ 256)) }
-{
+fn task_of(words: &[&[u8]]) -> Result<Task, Fault> {
     let [kind, symbols, objects, workers] = words else {
         return Err(Fault::Usage);
     };
     let objects = number_of(objects)?;
     let workers = number_of(workers)? as usize;
-    if objects == 0 || workers < 1 || workers > 256 {
+    if objects == 0 {
         return Err(Fault::Usage);
     }
     let shape = Shape {
@@ -159,7 +184,7 @@ pub fn bench<R: Threads + Sync + Clock + Print + Eprint>(
     let (count, found) = if task.is_map {
         time_map(rt, alloc, &files)?
     } else {
-        time_link(rt, alloc, files, task.workers)?
+        time_new_link(rt, alloc, files, task.workers)?
     };
     println!(rt; "{count} {found}")?;
     Ok(())

@@ -66,23 +66,35 @@ fn do_lines<R: Threads + Sync, P: Platform + Sync>(
     rt: &R,
     alloc: Global,
     text: &mut String,
-    link: Link<P>,
+    link: &mut Link<P>,
     lines: &[Vec<&[u8]>],
 ) -> Result<(), Fault>
-    requires { IsAtStage link }
+    requires { IsAtStage link.old }
 {
-    text.push_str("new -> done\n")?;
-    let mut link = link;
     let mut files = Gathered::new(alloc);
     for words in lines {
         let words = words.as_slice();
-        if let Err(fault) = do_line(rt, alloc, text, &mut link, &mut files, words) {
+        if let Err(fault) = do_line(rt, alloc, text, link, &mut files, words) {
             text.push_str("\n? ")?;
             write_words(text, words, "\n")?;
             return Err(fault);
         }
     }
     Ok(())
+}
+
+/// Does with a link what the lines behind `new` say.
+fn do_link<R: Threads + Sync, P: Platform + Sync>(
+    rt: &R,
+    alloc: Global,
+    text: &mut String,
+    link: Link<P>,
+    lines: &[Vec<&[u8]>],
+) -> Result<(), Fault>
+    requires { IsAtStage link }
+{
+    let mut link = link;
+    do_lines(rt, alloc, text, &mut link, lines)
 }
 
 /// Writes why there is no link.
@@ -113,7 +125,10 @@ fn do_case<R: Threads + Sync, P: Platform + Sync>(
         return Err(Fault::Limits);
     }
     match Link::<P>::new(alloc, setup) {
-        Ok(link) => do_lines(rt, alloc, text, link, lines),
+        Ok(link) => {
+            text.push_str("new -> done\n")?;
+            do_link(rt, alloc, text, link, lines)
+        }
         Err(error) => write_refused(alloc, text, error),
     }
 }
