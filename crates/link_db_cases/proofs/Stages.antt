@@ -47,8 +47,8 @@ pub started : {P : Type 0} (platform : PlatformRules) (db : Database P) (options
     → db ≡ record { options = options; rules = db.rules; workers = workers; mapping = no_names; table = [] } → HoldsTexts platform options texts [] db.rules → IsAt platform (Batches 0) db
 started {P} platform db options texts workers empty holds =
     kept platform (Batches 0) (record { options = options; rules = db.rules; workers = workers; mapping = no_names; table = [] }) db
-        (ap (λ (d : Database P). d.options) empty) refl (ap (λ (d : Database P). d.mapping.files.groups) empty)
-        (record { groups = ([], (refl, omega arith)); texts = (texts, ([], holds)) })
+    (ap (λ (d : Database P). d.options) empty) refl (ap (λ (d : Database P). d.mapping.files.groups) empty)
+    (record { groups = ([], (refl, omega arith)); texts = (texts, ([], holds)) })
 
 -- with a batch, where it was not refused
 pub with_batch : {P A E : Type 0} (platform : PlatformRules) (count : ℕ) (old new : Database P) (b : Batch) (more : List ProcessedLinkerScript) (r : Result A E)

@@ -293,8 +293,10 @@ pub fn answer<P: Platform>(
 ) -> Result<bool, Fault> {
     match words {
         [word] => Ok(answer_of_all(alloc, text, link, word)?),
-        [word, about] => Ok(answer_of_name(text, &link.db, word, about)?
-            || answer_of_symbol(text, link, word, about)?),
+        [word, about] => Ok(
+            answer_of_name(text, &link.db, word, about)?
+                || answer_of_symbol(text, link, word, about)?,
+        ),
         _ => Ok(false),
     }
 }

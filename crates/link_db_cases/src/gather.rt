@@ -134,11 +134,7 @@ fn object_of(
 }
 
 /// A linker script, perhaps with the name of an entry and the text of a version script.
-fn script_of(
-    alloc: Global,
-    name: &[u8],
-    words: &[&[u8]],
-) -> Result<ProcessedLinkerScript, Fault> {
+fn script_of(alloc: Global, name: &[u8], words: &[&[u8]]) -> Result<ProcessedLinkerScript, Fault> {
     let mut script = ProcessedLinkerScript {
         input: unescaped(alloc, name)?,
         entry: None,

@@ -41,4 +41,4 @@ returns g c =
     let roomy = seen c.groups_reserve.new.self in
     let call = c.add_group in
     stages.with_files platform _ roomy (seen call.new.self) c.in_ok-group.group call.result call.ensures.ok call.ensures.err
-        (stages.closed platform c.args.self.now.stage (seen c.args.self.now.db) roomy c.groups_reserve.ensures c.requires)
+    (stages.closed platform c.args.self.now.stage (seen c.args.self.now.db) roomy c.groups_reserve.ensures c.requires)

@@ -23,8 +23,10 @@ invariant_of-self g c =
     let old = seen c.args.self.now.db in
     let call = c.add_synthetic_symbol in
     let at : IsAt (platform_of g.P.Platform) Symbols old = subst (λ (s : Stage). IsAt (platform_of g.P.Platform) s old) c.in-Symbols.is c.requires in
-    record { whole = whole.with_symbol old (seen call.new.self) (words_of c.args.self.now.flags) (words_of call.new.flags) c.args.name flag.non_interposable call.result at.groups
-        call.ensures.ok call.ensures.flags call.ensures.err call.ensures.flags_err c.args.self.now.whole }
+    record {
+      whole = whole.with_symbol old (seen call.new.self) (words_of c.args.self.now.flags) (words_of call.new.flags) c.args.name flag.non_interposable call.result at.groups
+          call.ensures.ok call.ensures.flags call.ensures.err call.ensures.flags_err c.args.self.now.whole;
+    }
 
 pub returns-in_err-add_synthetic_symbol : goal.returns-in_err-add_synthetic_symbol
 unfolding IsAtStage
@@ -33,7 +35,7 @@ returns-in_err-add_synthetic_symbol g c =
     let call = c.add_synthetic_symbol in
     let at : IsAt (platform_of g.P.Platform) Symbols old = subst (λ (s : Stage). IsAt (platform_of g.P.Platform) s old) c.in-Symbols.is c.requires in
     subst (λ (s : Stage). IsAt (platform_of g.P.Platform) s (seen call.new.self)) (sym c.in-Symbols.is)
-        (stages.with_symbol (platform_of g.P.Platform) old (seen call.new.self) c.args.name call.result call.ensures.ok call.ensures.err at)
+    (stages.with_symbol (platform_of g.P.Platform) old (seen call.new.self) c.args.name call.result call.ensures.ok call.ensures.err at)
 
 pub returns : goal.returns
 unfolding IsAtStage
@@ -42,4 +44,4 @@ returns g c =
     let call = c.add_synthetic_symbol in
     let at : IsAt (platform_of g.P.Platform) Symbols old = subst (λ (s : Stage). IsAt (platform_of g.P.Platform) s old) c.in-Symbols.is c.requires in
     subst (λ (s : Stage). IsAt (platform_of g.P.Platform) s (seen call.new.self)) (sym c.in-Symbols.is)
-        (stages.with_symbol (platform_of g.P.Platform) old (seen call.new.self) c.args.name call.result call.ensures.ok call.ensures.err at)
+    (stages.with_symbol (platform_of g.P.Platform) old (seen call.new.self) c.args.name call.result call.ensures.ok call.ensures.err at)

@@ -16,12 +16,14 @@ invariant_of-self g c =
     let old = seen c.args.self.now.db in
     let words = words_of c.args.self.now.flags in
     let e = c.replace_definition.ensures in
-    record { whole = whole.kept old (seen c.replace_definition.new.self) words words (ap (λ (d : Database _). d.mapping.files) e)
-        (ap (λ (d : Database _). length d.table) e ∙ length-set old.table c.args.id c.args.definition) refl c.args.self.now.whole }
+    record {
+      whole = whole.kept old (seen c.replace_definition.new.self) words words (ap (λ (d : Database _). d.mapping.files) e)
+          (ap (λ (d : Database _). length d.table) e ∙ length-set old.table c.args.id c.args.definition) refl c.args.self.now.whole;
+    }
 
 pub returns : goal.returns
 unfolding IsAtStage
 returns g c =
     let e = c.replace_definition.ensures in
     stages.kept (platform_of g.P.Platform) c.args.self.now.stage (seen c.args.self.now.db) _ (ap (λ (d : Database _). d.options) e) (ap (λ (d : Database _). d.rules) e)
-        (ap (λ (d : Database _). d.mapping.files.groups) e) c.requires.stage
+    (ap (λ (d : Database _). d.mapping.files.groups) e) c.requires.stage

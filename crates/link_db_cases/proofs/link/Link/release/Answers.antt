@@ -21,4 +21,4 @@ unfolding IsAtStage
 returns g c =
     let e = c.release_alternatives.ensures in
     stages.kept (platform_of g.P.Platform) c.args.self.now.stage (seen c.args.self.now.db) _ (ap (λ (d : Database _). d.options) e) (ap (λ (d : Database _). d.rules) e)
-        (ap (λ (d : Database _). d.mapping.files.groups) e) c.requires
+    (ap (λ (d : Database _). d.mapping.files.groups) e) c.requires

@@ -12,4 +12,4 @@ unfolding IsAtStage
 returns g c =
     let e = c.write_table.ensures in
     stages.kept (platform_of g.P.Platform) c.args.self.now.stage (seen c.args.self.now.db) _ (ap (λ (d : Database _). d.options) e) (ap (λ (d : Database _). d.rules) e)
-        (ap (λ (d : Database _). d.mapping.files.groups) e) c.requires
+    (ap (λ (d : Database _). d.mapping.files.groups) e) c.requires
