@@ -1,0 +1,255 @@
+//! Lines that tell the files of a batch.
+
+use crate::definitions::definition_of;
+use crate::fault::Fault;
+use crate::words::{key_and_value, listed, name_and_version, number_of, unescaped};
+use link_flags::Visibility;
+use link_input::{
+    InputObject, Inputs, InternalSymDefInfo, Modifiers, ObjectTable, ParsedInputObject, Place,
+    Platform, ProcessedLinkerScript, StubLibrary, SymbolBinding, SymbolEntry, SymbolKind,
+};
+use link_names::{Name, Seq};
+use std::alloc::Global;
+
+/// An object whose symbols are told in the lines that follow.
+#[derive(Drop)]
+pub struct TableOf {
+    input: Name,
+    modifiers: Modifiers,
+    table: ObjectTable,
+}
+
+/// The files of the next batch, as far as they were told.
+#[derive(Drop)]
+pub struct Gathered {
+    objects: Vec<TableOf>,
+    scripts: Vec<ProcessedLinkerScript>,
+    stubs: Seq<StubLibrary>,
+}
+
+/// An entry without a name, which stands nowhere and is local.
+pub fn null_entry(alloc: Global) -> SymbolEntry {
+    SymbolEntry {
+        name: Name::new(Vec::new(alloc)),
+        version: None,
+        is_default: true,
+        binding: SymbolBinding::Local,
+        visibility: Visibility::Default,
+        kind: SymbolKind::Plain,
+        size: 0,
+        place: Place::Undefined,
+    }
+}
+
+/// Sets what a word says of an entry.
+fn set_entry(entry: &mut SymbolEntry, word: &[u8]) -> Result<(), Fault> {
+    match word {
+        b"local" => entry.binding = SymbolBinding::Local,
+        b"weak" => entry.binding = SymbolBinding::Weak,
+        b"unique" => entry.binding = SymbolBinding::Unique,
+        b"protected" => entry.visibility = Visibility::Protected,
+        b"hidden" => entry.visibility = Visibility::Hidden,
+        b"func" => entry.kind = SymbolKind::Func,
+        b"ifunc" => entry.kind = SymbolKind::Ifunc,
+        b"tls" => entry.kind = SymbolKind::Tls,
+        b"undef" => entry.place = Place::Undefined,
+        b"abs" => entry.place = Place::Absolute,
+        b"common" => entry.place = Place::Common,
+        _ => return set_size(entry, word),
+    }
+    Ok(())
+}
+
+/// Sets the size of an entry: `size=N`.
+fn set_size(entry: &mut SymbolEntry, word: &[u8]) -> Result<(), Fault> {
+    match key_and_value(word) {
+        Some((b"size", value)) => {
+            entry.size = u64::from(number_of(value)?);
+            Ok(())
+        }
+        _ => Err(Fault::Word),
+    }
+}
+
+/// The entry of a symbol: a definition in the first section, global and visible, but for what the words say. A version behind
+/// `@@` is the default one.
+fn entry_of(alloc: Global, name: &[u8], words: &[&[u8]]) -> Result<SymbolEntry, Fault> {
+    let mut entry = null_entry(alloc);
+    let (plain, version) = name_and_version(name);
+    entry.name = unescaped(alloc, plain)?;
+    if let Some(version) = version {
+        let behind = version.strip_prefix(b"@".as_slice());
+        entry.is_default = behind.is_some();
+        entry.version = Some(unescaped(alloc, behind.unwrap_or(version))?);
+    }
+    entry.binding = SymbolBinding::Global;
+    entry.place = Place::Section(0);
+    for word in words {
+        set_entry(&mut entry, word)?;
+    }
+    Ok(entry)
+}
+
+/// An object of one section with these symbols, which is loaded in any case.
+pub fn object_with(alloc: Global, input: Name, symbols: Seq<SymbolEntry>) -> TableOf {
+    TableOf {
+        input,
+        modifiers: Modifiers {
+            archive: false,
+            whole_archive: false,
+            as_needed: false,
+        },
+        table: ObjectTable {
+            is_dynamic: false,
+            lib_name: Name::new(Vec::new(alloc)),
+            sections: 1,
+            symbols,
+            groups: Seq::new(alloc),
+        },
+    }
+}
+
+/// An object without symbols, but for the null entry where the platform has one.
+fn object_of(
+    alloc: Global,
+    has_null: bool,
+    name: &[u8],
+    words: &[&[u8]],
+) -> Result<TableOf, Fault> {
+    let mut symbols = Seq::new(alloc);
+    if has_null {
+        symbols.push(null_entry(alloc))?;
+    }
+    let mut object = object_with(alloc, unescaped(alloc, name)?, symbols);
+    for word in words {
+        match *word {
+            b"dynamic" => object.table.is_dynamic = true,
+            b"archive" => object.modifiers.archive = true,
+            b"whole" => object.modifiers.whole_archive = true,
+            b"as_needed" => object.modifiers.as_needed = true,
+            _ => return Err(Fault::Word),
+        }
+    }
+    Ok(object)
+}
+
+/// A linker script, perhaps with the name of an entry and the text of a version script.
+fn script_of(alloc: Global, name: &[u8], words: &[&[u8]]) -> Result<ProcessedLinkerScript, Fault> {
+    let mut script = ProcessedLinkerScript {
+        input: unescaped(alloc, name)?,
+        entry: None,
+        version: None,
+        symbol_defs: Seq::new(alloc),
+    };
+    for word in words {
+        match key_and_value(word) {
+            Some((b"entry", value)) => script.entry = Some(unescaped(alloc, value)?),
+            Some((b"version", value)) => script.version = Some(unescaped(alloc, value)?),
+            _ => return Err(Fault::Word),
+        }
+    }
+    Ok(script)
+}
+
+/// A stub library.
+fn stub_of(alloc: Global, name: &[u8], words: &[&[u8]]) -> Result<StubLibrary, Fault> {
+    let mut stub = StubLibrary {
+        input: unescaped(alloc, name)?,
+        strong: Seq::new(alloc),
+        weak: Seq::new(alloc),
+    };
+    for word in words {
+        match key_and_value(word) {
+            Some((b"strong", value)) => stub.strong = listed(alloc, value)?,
+            Some((b"weak", value)) => stub.weak = listed(alloc, value)?,
+            _ => return Err(Fault::Word),
+        }
+    }
+    Ok(stub)
+}
+
+impl TableOf {
+    /// The object with its table checked.
+    pub fn checked<P: Platform>(self, alloc: Global) -> Result<ParsedInputObject<P>, Fault> {
+        let TableOf {
+            input,
+            modifiers,
+            table,
+        } = self;
+        match InputObject::new(alloc, table) {
+            Ok(object) => Ok(ParsedInputObject::new(input, object, modifiers)),
+            Err(_) => Err(Fault::Table),
+        }
+    }
+}
+
+impl Gathered {
+    /// No file.
+    pub fn new(alloc: Global) -> Self {
+        Gathered {
+            objects: Vec::new(alloc),
+            scripts: Vec::new(alloc),
+            stubs: Seq::new(alloc),
+        }
+    }
+
+    /// The files of a batch.
+    pub fn into_inputs<P: Platform>(self, alloc: Global) -> Result<Inputs<P>, Fault> {
+        let Gathered {
+            objects,
+            scripts,
+            stubs,
+        } = self;
+        let mut checked = Seq::new(alloc);
+        for object in objects {
+            checked.push(object.checked(alloc)?)?;
+        }
+        Ok(Inputs {
+            objects: checked,
+            scripts: Seq::from_vec(scripts),
+            stubs,
+        })
+    }
+
+    /// Adds the file, or the symbol of the last file, that a line tells. Says whether it tells one.
+    pub fn take(&mut self, alloc: Global, has_null: bool, words: &[&[u8]]) -> Result<bool, Fault> {
+        match words {
+            [b"object", name, rest @ ..] => {
+                self.objects.push(object_of(alloc, has_null, name, rest)?)?;
+            }
+            [b"symbol", name, rest @ ..] => {
+                self.add_symbol(entry_of(alloc, name, rest)?)?;
+            }
+            [b"script", name, rest @ ..] => self.scripts.push(script_of(alloc, name, rest)?)?,
+            [b"scripts", count] => self.add_scripts(alloc, number_of(count)?)?,
+            [b"def", rest @ ..] => self.add_definition(definition_of(alloc, rest)?)?,
+            [b"stub", name, rest @ ..] => self.stubs.push(stub_of(alloc, name, rest)?)?,
+            _ => return Ok(false),
+        }
+        Ok(true)
+    }
+
+    /// Adds a symbol to the last object.
+    fn add_symbol(&mut self, entry: SymbolEntry) -> Result<(), Fault> {
+        match self.objects.last_mut() {
+            Some(object) => Ok(object.table.symbols.push(entry)?),
+            None => Err(Fault::File),
+        }
+    }
+
+    /// Adds a definition to the last linker script.
+    fn add_definition(&mut self, definition: InternalSymDefInfo) -> Result<(), Fault> {
+        match self.scripts.last_mut() {
+            Some(script) => Ok(script.symbol_defs.push(definition)?),
+            None => Err(Fault::File),
+        }
+    }
+
+    /// Adds so many linker scripts that say nothing.
+    fn add_scripts(&mut self, alloc: Global, count: u32) -> Result<(), Fault> {
+        for _ in 0..count {
+            self.scripts.push(script_of(alloc, b"empty.ld", &[])?)?;
+        }
+        Ok(())
+    }
+}
