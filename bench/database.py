@@ -4,7 +4,7 @@
     python3 bench/database.py [PROGRAM] [SYMBOLS..]
 
 PROGRAM is the built program, crates/link_db_cases/out/link_db_cases by default (`rt run` in its crate builds it). SYMBOLS is
-how many symbols there are in all, by default 100000, 1000000 and 4000000, in objects of 500. A line for each number of
+how many symbols there are in all, by default 100000 and 1000000, in objects of 100. A line for each number of
 processors that the program may use, which is the number of workers too; `map` is the plain map, by one. The figures are the
 least of five runs: seconds to add all, or to put all names into the map; seconds to look all names up; the most memory that
 the program held, its inputs with it. The last column is the time to add all, to that of the map.
@@ -22,7 +22,7 @@ def run(program, kind, symbols, processors):
         os.sched_setaffinity(0, range(processors))
         os.dup2(writer, 2)
         os.dup2(os.open(os.devnull, os.O_WRONLY), 1)
-        os.execv(program, [program, kind, str(symbols), str(max(1, symbols // 500)), str(processors)])
+        os.execv(program, [program, kind, str(symbols), str(max(1, symbols // 100)), str(processors)])
     os.close(writer)
     with os.fdopen(reader) as pipe:
         steps = [int(line.rsplit(" ", 1)[1]) for line in pipe]
@@ -44,7 +44,7 @@ def main():
     program = os.path.join(top, "crates/link_db_cases/out/link_db_cases")
     if words and not words[0].isdigit():
         program = os.path.abspath(words.pop(0))
-    counts = [int(word) for word in words] or [100000, 1000000, 4000000]
+    counts = [int(word) for word in words] or [100000, 1000000]
     print(f"{'symbols':>8} {'kind':>4} {'processors':>10} {'add s':>7} {'look up s':>9} {'MB held':>8} {'to map':>6}")
     for symbols in counts:
         base = least(program, "map", symbols, 1)

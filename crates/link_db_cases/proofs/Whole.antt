@@ -1,6 +1,6 @@
 -- Table and flags keep an entry for each symbol.
 use Rattle.std.specs.Prelude.{OnOk, OnErr}
-use Rattle.std.proofs.Common.{Result, Ok, Err, ◌≡◌, ◌+◌, ◌++◌, ◌∙◌, ℕ, List, [], ◌∷◌, length, map, sym, ap, subst, arith}
+use Rattle.std.proofs.Common.{Result, Ok, Err, ◌≡◌, ◌++◌, ◌∙◌, ℕ, List, [], ◌∷◌, length, sym, ap, subst, arith}
 use Rattle.std.proofs.lemmas.List.{length-append, length-map}
 use Rattle.link_flags.specs.declared.per_symbol_flags.PerSymbolFlags.{PerSymbolFlags}
 use Rattle.link_flags.specs.declared.value_flags.RawFlags.{RawFlags}

@@ -1,7 +1,6 @@
-use Rattle.std.proofs.Common.{ℕ, List, length, ap, refl}
+use Rattle.std.proofs.Common.{refl}
 use Rattle.link_flags.specs.FlagWords.{words_of}
 use Rattle.link_loader.specs.Holds.{platform_of}
-use Rattle.link_db.specs.Database.{Database}
 use Rattle.link_db.specs.Seen.{seen}
 use Rattle.link_db_cases.specs.Staged.{IsAtStage}
 use Rattle.link_db_cases.proofs.Stages as stages

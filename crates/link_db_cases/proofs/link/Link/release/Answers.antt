@@ -1,4 +1,4 @@
-use Rattle.std.proofs.Common.{ℕ, List, length, ap, refl}
+use Rattle.std.proofs.Common.{length, ap, refl}
 use Rattle.link_flags.specs.FlagWords.{words_of}
 use Rattle.link_loader.specs.Holds.{platform_of}
 use Rattle.link_db.specs.Database.{Database}
