@@ -20,7 +20,7 @@ use Rattle.link_rules.specs.Rules.{PlatformRules, Rules, rules_of}
 use Rattle.link_rules.specs.Visibility.{rust_flags}
 use Rattle.link_db.specs.Adding.{IsGrown}
 use Rattle.link_db.specs.Database.{Database, no_names}
-use Rattle.link_db.specs.RustForm.{numbers_of}
+use Rattle.link_flags.specs.FlagWords.{numbers_of}
 use Rattle.link_db.specs.RustScript.{flags_by_script, freed_symbols}
 use Rattle.link_db.specs.Synthetic.{with_linker_symbol}
 use Rattle.link_db_cases.specs.declared.stage.Stage.{Stage}

@@ -4,7 +4,7 @@ use Rattle.std.proofs.Common.{Result, Ok, Err, ◌≡◌, ◌++◌, ◌∙◌, �
 use Rattle.std.proofs.lemmas.List.{length-append, length-map}
 use Rattle.link_flags.specs.declared.per_symbol_flags.PerSymbolFlags.{PerSymbolFlags}
 use Rattle.link_flags.specs.declared.value_flags.RawFlags.{RawFlags}
-use Rattle.link_flags.specs.FlagWords.{words_of}
+use Rattle.link_flags.specs.FlagWords.{numbers_of, words_of}
 use Rattle.link_groups.specs.declared.group.Group.{Group}
 use Rattle.link_files.specs.Adding.{CanFollow, EndsInSynthetic}
 use Rattle.link_files.specs.HeldFiles.{HeldFiles, names_in}
@@ -13,7 +13,6 @@ use Rattle.link_files.proofs.Growing.{names-more}
 use Rattle.link_mapping.specs.Changes.{with_group}
 use Rattle.link_db.specs.Adding.{IsGrown}
 use Rattle.link_db.specs.Database.{Database, symbol_names}
-use Rattle.link_db.specs.RustForm.{numbers_of}
 use Rattle.link_db.specs.Synthetic.{with_linker_symbol}
 use Rattle.link_db_cases.specs.Held.{IsWhole}
 
