@@ -29,6 +29,7 @@ pub fn symbol_of<P: Platform>(db: &SymbolDb<P>, word: &[u8]) -> Result<SymbolId,
 }
 
 /// Writes a symbol, if there is one.
+/// What is written is left to the cases, whose expected text stands beside them.
 pub fn write_symbol(text: &mut String, symbol: Option<SymbolId>) -> Result<(), AllocError> {
     match symbol {
         Some(id) => write!(text, "{id}"),
@@ -285,6 +286,7 @@ fn answer_of_symbol<P: Platform>(
 }
 
 /// Answers what a line asks of a link. Says whether it asks something.
+/// What is written is left to the cases: no clause says it.
 pub fn answer<P: Platform>(
     alloc: Global,
     text: &mut String,

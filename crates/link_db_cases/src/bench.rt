@@ -172,6 +172,7 @@ fn task_of(words: &[&[u8]]) -> Result<Task, Fault> {
 }
 
 /// Times what words tell, and says how many symbols or names there are, and how many were found.
+/// The figures are left open: they are times.
 pub fn bench<R: Threads + Sync + Clock + Print + Eprint>(
     rt: &R,
     alloc: Global,

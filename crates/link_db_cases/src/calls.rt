@@ -17,6 +17,7 @@ use std::fmt::Write;
 use std::thread::Threads;
 
 /// Writes whether a call was done, or why it was refused.
+/// What is written is left to the cases: no clause says it.
 pub fn write_outcome(
     text: &mut String,
     alloc: Global,

@@ -168,6 +168,7 @@ fn do_case_of<R: Threads + Sync>(
 }
 
 /// Does what all cases say, and writes what is answered.
+/// What is written is left to the cases, whose expected text stands beside them: no clause says it.
 pub fn do_cases<R: Threads + Sync>(
     rt: &R,
     alloc: Global,

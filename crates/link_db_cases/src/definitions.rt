@@ -43,6 +43,7 @@ fn placement_of(alloc: Global, word: &[u8]) -> Result<SymbolPlacement, Fault> {
 }
 
 /// A definition: a name, its placement, and perhaps `hidden`.
+/// How lines are read is left to the cases: no clause says it.
 pub fn definition_of(alloc: Global, words: &[&[u8]]) -> Result<InternalSymDefInfo, Fault> {
     let (name, placement, hidden) = match words {
         [name, placement] => (name, placement, false),

@@ -28,6 +28,7 @@ pub struct Gathered {
 }
 
 /// An entry without a name, which stands nowhere and is local.
+/// Its fields are left open: only the cases look at them.
 pub fn null_entry(alloc: Global) -> SymbolEntry {
     SymbolEntry {
         name: Name::new(Vec::new(alloc)),
@@ -91,6 +92,7 @@ fn entry_of(alloc: Global, name: &[u8], words: &[&[u8]]) -> Result<SymbolEntry, 
 }
 
 /// An object of one section with these symbols, which is loaded in any case.
+/// Its fields are left open: only the cases and the benchmark look at them.
 pub fn object_with(alloc: Global, input: Name, symbols: Seq<SymbolEntry>) -> TableOf {
     TableOf {
         input,
@@ -170,6 +172,7 @@ fn stub_of(alloc: Global, name: &[u8], words: &[&[u8]]) -> Result<StubLibrary, F
 
 impl TableOf {
     /// The object with its table checked.
+    /// Which tables pass is said by `InputObject::new`; here no clause repeats it.
     pub fn checked<P: Platform>(self, alloc: Global) -> Result<ParsedInputObject<P>, Fault> {
         let TableOf {
             input,
@@ -185,6 +188,7 @@ impl TableOf {
 
 impl Gathered {
     /// No file.
+    /// That it is empty is left open: any files would do.
     pub fn new(alloc: Global) -> Self {
         Gathered {
             objects: Vec::new(alloc),
@@ -194,6 +198,7 @@ impl Gathered {
     }
 
     /// The files of a batch.
+    /// Which files they are is left open: any batch may be added.
     pub fn into_inputs<P: Platform>(self, alloc: Global) -> Result<Inputs<P>, Fault> {
         let Gathered {
             objects,
@@ -212,6 +217,7 @@ impl Gathered {
     }
 
     /// Adds the file, or the symbol of the last file, that a line tells. Says whether it tells one.
+    /// How lines are read is left to the cases: no clause says it.
     pub fn take(&mut self, alloc: Global, has_null: bool, words: &[&[u8]]) -> Result<bool, Fault> {
         match words {
             [b"object", name, rest @ ..] => {

@@ -69,6 +69,7 @@ fn entries(alloc: Global, shape: Shape, object: u32) -> Result<Seq<SymbolEntry>,
 }
 
 /// The objects of a link.
+/// Which names they have is left open: the benchmark counts those that are found.
 pub fn inputs(alloc: Global, shape: Shape) -> Result<Inputs<ElfLike>, Fault> {
     let mut objects = Seq::new(alloc);
     for number in 0..shape.objects {

@@ -48,6 +48,7 @@ fn set_option(alloc: Global, options: &mut Options, word: &[u8]) -> Result<(), F
 
 impl Setup {
     /// No option and one worker.
+    /// Its fields are left open: `is_within_limits` tells what a database asks of them.
     pub fn new(alloc: Global) -> Self {
         Setup {
             options: Options::new(alloc),
@@ -60,6 +61,7 @@ impl Setup {
     }
 
     /// Sets what a line says.
+    /// How lines are read is left to the cases; `is_within_limits` tells what a database asks of the fields.
     pub fn set(&mut self, alloc: Global, words: &[&[u8]]) -> Result<(), Fault> {
         match words {
             [b"options", rest @ ..] => {

@@ -18,6 +18,7 @@ fn digit(byte: u8) -> u8
 }
 
 /// The bytes that a word stands for: `%HH` is the byte of these two hexadecimal digits.
+/// How words are read is left to the cases: no clause says it.
 pub fn unescaped(alloc: Global, word: &[u8]) -> Result<Name, AllocError> {
     let mut bytes = Vec::new(alloc);
     let mut parts = word.split(|byte| *byte == b'%');
@@ -34,6 +35,7 @@ pub fn unescaped(alloc: Global, word: &[u8]) -> Result<Name, AllocError> {
 }
 
 /// The names that a word lists, with commas between them.
+/// How words are read is left to the cases: no clause says it.
 pub fn listed(alloc: Global, word: &[u8]) -> Result<Seq<Name>, AllocError> {
     let mut names = Seq::new(alloc);
     for part in word.split(|byte| *byte == b',') {
@@ -43,12 +45,14 @@ pub fn listed(alloc: Global, word: &[u8]) -> Result<Seq<Name>, AllocError> {
 }
 
 /// The parts of a word before and behind its first `=`.
+/// How words are read is left to the cases: no clause says it.
 pub fn key_and_value(word: &[u8]) -> Option<(&[u8], &[u8])> {
     let at = word.iter().position(|byte| *byte == b'=')?;
     Some((&word[..at], &word[at + 1..]))
 }
 
 /// A name, and the version behind an `@`.
+/// How words are read is left to the cases: no clause says it.
 pub fn name_and_version(word: &[u8]) -> (&[u8], Option<&[u8]>) {
     match word.iter().position(|byte| *byte == b'@') {
         Some(at) => (&word[..at], Some(&word[at + 1..])),
@@ -57,6 +61,7 @@ pub fn name_and_version(word: &[u8]) -> (&[u8], Option<&[u8]>) {
 }
 
 /// The number that a word writes.
+/// How words are read is left to the cases: no clause says it.
 pub fn number_of(word: &[u8]) -> Result<u32, Fault> {
     let Some(text) = text_of(word) else {
         return Err(Fault::Number);
@@ -68,6 +73,7 @@ pub fn number_of(word: &[u8]) -> Result<u32, Fault> {
 }
 
 /// The lines of a text, each as its words; one that begins with `//` is none.
+/// How a text is cut into lines is left to the cases: no clause says it.
 pub fn lines_of(alloc: Global, text: &[u8]) -> Result<Vec<Vec<&[u8]>>, AllocError> {
     let mut lines = Vec::new(alloc);
     for line in text.split(|byte| *byte == b'\n') {
