@@ -5,9 +5,10 @@
 
 PROGRAM is the built program, crates/link_db_cases/out/link_db_cases by default (`rt run` in its crate builds it). SYMBOLS is
 how many symbols there are in all, by default 100000 and 1000000, in objects of 100. A line for each number of
-processors that the program may use, which is the number of workers too; `map` is the plain map, by one. The figures are the
-least of five runs: seconds to add all, or to put all names into the map; seconds to look all names up; the most memory that
-the program held, its inputs with it. The last column is the time to add all, to that of the map.
+processors that the program may use, which is the number of workers too; `map` is the plain map, by one. The kinds run in turn,
+nine times, so that other work on the machine meets all alike. The figures are the least of these runs: seconds to add all, or
+to put all names into the map; seconds to look all names up; the most memory that the program held, its inputs with it. The
+last column is the time to add all, to that of the map.
 """
 
 import os
@@ -32,9 +33,8 @@ def run(program, kind, symbols, processors):
     return steps, usage.ru_maxrss
 
 
-def least(program, kind, symbols, processors):
+def least(runs):
     """The least of some runs: to add, to look up, and memory."""
-    runs = [run(program, kind, symbols, processors) for _ in range(5)]
     return [min(steps[1] for steps, _ in runs), min(steps[2] for steps, _ in runs), min(held for _, held in runs)]
 
 
@@ -46,10 +46,12 @@ def main():
         program = os.path.abspath(words.pop(0))
     counts = [int(word) for word in words] or [100000, 1000000]
     print(f"{'symbols':>8} {'kind':>4} {'processors':>10} {'add s':>7} {'look up s':>9} {'MB held':>8} {'to map':>6}")
+    tasks = [("map", 1)] + [("db", n) for n in (1, 2, 4)]
     for symbols in counts:
-        base = least(program, "map", symbols, 1)
-        for kind, processors in [("map", 1)] + [("db", n) for n in (1, 2, 4)]:
-            figures = base if kind == "map" else least(program, kind, symbols, processors)
+        rounds = [[run(program, kind, symbols, processors) for kind, processors in tasks] for _ in range(9)]
+        base = least([each[0] for each in rounds])
+        for at, (kind, processors) in enumerate(tasks):
+            figures = least([each[at] for each in rounds])
             print(f"{symbols:8} {kind:>4} {processors:10} {figures[0] / 1e6:7.3f} {figures[1] / 1e6:9.3f} "
                   f"{figures[2] / 1024:8.1f} {figures[0] / base[0]:6.2f}", flush=True)
 

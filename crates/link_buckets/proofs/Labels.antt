@@ -1,5 +1,5 @@
 -- The labels of all heads in use.
-use Rattle.std.proofs.Common.{◌≡◌, ◌∙◌, ◌%◌, ◌+◌, ◌<◌, ℕ, Bool, true, false, List, [], length, take, Option, Some, None, refl, sym, ap, subst, arith}
+use Rattle.std.proofs.Common.{◌≡◌, ◌∙◌, ◌%◌, ◌+◌, ℕ, true, [], length, take, Option, Some, None, refl, sym, ap, subst, arith}
 use Rattle.std.specs.Prelude.{All, AllPairs, Contains, IsSomeAnd, slice_get}
 use Rattle.std.specs.List.{flat_map}
 use Rattle.std.specs.Option.{is_some, option_and_then, option_map, option_map_or, option_or}

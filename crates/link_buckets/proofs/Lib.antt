@@ -3,7 +3,6 @@ pub mod Search
 pub mod Noting
 pub mod Changes
 pub mod Rounds
-pub mod Applied
 pub mod Growing
 pub mod Walking
 pub mod Returning
@@ -11,3 +10,6 @@ pub mod Scanning
 pub mod Releasing
 pub mod Made
 pub mod Labels
+pub mod Running
+pub mod Joined
+pub mod Whole

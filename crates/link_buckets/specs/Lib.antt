@@ -4,3 +4,4 @@ pub mod Places
 pub mod Noted
 pub mod Bucket
 pub mod Buckets
+pub mod Runs

@@ -52,6 +52,14 @@ impl Bucket {
         self.heads.as_slice()
     }
 
+    /// Makes room for so many names more. What it holds stays.
+    pub(crate) fn reserve(&mut self, more: usize) -> Result<(), AllocError>
+        ensures { heads_in self.new ≡ heads_in self.old }
+    {
+        self.heads.reserve(more)?;
+        self.places.reserve(more)
+    }
+
     /// Whether the head at the place leads to the name and version.
     fn is_named<T: Names>(
         &self,

@@ -9,7 +9,11 @@ use crate::definition::Definition;
 use crate::head::Definitions;
 use crate::label::{Label, Names};
 use crate::mapped_labels::MappedLabels;
+use crate::runs::undo_parts;
+use crate::shares::{definitions_of, place_among, room_for, threads_for};
+use crate::side_by_side::apply_run;
 use std::alloc::{AllocError, Global};
+use std::thread::Threads;
 
 /// Names in buckets by their hash numbers. What is said of a name is the same for every number of buckets.
 #[derive(Drop)]
@@ -25,6 +29,7 @@ impl Buckets {
     ghost use Rattle.link_buckets.specs.declared.label.Label.{Label};
     ghost use Rattle.link_buckets.specs.Keys.{Key, key_of, leads_to, number_of, same_key};
     ghost use Rattle.link_buckets.specs.Heads.{without_last};
+    ghost use Rattle.link_buckets.specs.Runs.{joined};
     ghost use Rattle.link_buckets.specs.Buckets.{AreHashed, AreKeyed, buckets_in, definitions_at, first_label, ids_with, label_at, mapped_at, overridden_at};
 
     /// So many buckets, with no names.
@@ -66,7 +71,7 @@ impl Buckets {
         ensures place { result ≡ hash % length (buckets_in self.now) }
         ensures within { result < length (buckets_in self.now) }
     {
-        (hash % self.buckets.len() as u64) as usize
+        place_among(hash, self.buckets.len())
     }
 
     /// Adds a definition at the end of those of the label's key.
@@ -209,60 +214,44 @@ impl Buckets {
         bucket.remove_last(table, hash, name, version);
     }
 
-    /// Takes the last definition of the label's key away, where it has one.
-    fn take_last<T: Names>(&mut self, table: &T, hash: u64, label: Label)
-        requires keyed { AreKeyed (T.key_at table.now) self.old }
-        requires hashed { number_of (T.key_at table.now) label ≡ Some hash }
-        ensures keyed { AreKeyed (T.key_at table.now) self.new }
-        ensures definitions { (asked : Key) → definitions_at (T.key_at table.now) self.new asked
-            ≡ (if leads_to (T.key_at table.now) label asked then without_last 1 (definitions_at (T.key_at table.now) self.old asked) else definitions_at (T.key_at table.now) self.old asked) }
-        ensures overridden { (asked : Key) → overridden_at (T.key_at table.now) self.new asked ≡ overridden_at (T.key_at table.now) self.old asked }
-        ensures labels { (asked : Key) → label_at (T.key_at table.now) self.new asked
-            ≡ (if is_some (mapped_at (T.key_at table.now) self.new asked) then label_at (T.key_at table.now) self.old asked else None) }
-    {
-        let place = self.place_of(hash);
-        let bucket = &mut self.buckets[place];
-        bucket.take_last(table, hash, label);
-    }
-
-    /// Adds definitions in order, all of them or none.
-    pub fn apply<T: Names>(
+    /// Adds the definitions of parts in order, all of them or none. Runs of buckets take theirs side by side, where there are many.
+    pub fn apply<R: Threads + Sync, T: Names + Sync>(
         &mut self,
+        rt: &R,
         table: &T,
-        definitions: &[Definition],
+        parts: &[&[Definition]],
     ) -> Result<(), AllocError>
         requires keyed { AreKeyed (T.key_at table.now) self.old }
-        requires hashed { AreHashed (T.key_at table.now) definitions.now }
+        requires hashed { AreHashed (T.key_at table.now) (joined parts.now) }
         ensures keyed { AreKeyed (T.key_at table.now) self.new }
-        ensures definitions { OnOk result ((asked : Key) → definitions_at (T.key_at table.now) self.new asked ≡ definitions_at (T.key_at table.now) self.old asked ++ ids_with (T.key_at table.now) definitions.now asked) }
+        ensures definitions { OnOk result ((asked : Key) → definitions_at (T.key_at table.now) self.new asked ≡ definitions_at (T.key_at table.now) self.old asked ++ ids_with (T.key_at table.now) (joined parts.now) asked) }
         ensures err { OnErr result ((asked : Key) → definitions_at (T.key_at table.now) self.new asked ≡ definitions_at (T.key_at table.now) self.old asked) }
         ensures overridden { (asked : Key) → overridden_at (T.key_at table.now) self.new asked ≡ overridden_at (T.key_at table.now) self.old asked }
-        ensures labels { OnOk result ((asked : Key) → label_at (T.key_at table.now) self.new asked ≡ option_or (label_at (T.key_at table.now) self.old asked) (first_label (T.key_at table.now) definitions.now asked)) }
+        ensures labels { OnOk result ((asked : Key) → label_at (T.key_at table.now) self.new asked ≡ option_or (label_at (T.key_at table.now) self.old asked) (first_label (T.key_at table.now) (joined parts.now) asked)) }
         ensures labels_err { OnErr result ((asked : Key) → label_at (T.key_at table.now) self.new asked ≡ label_at (T.key_at table.now) self.old asked) }
     {
-        for (at, definition) in definitions.iter().enumerate() {
-            if let Err(error) = self.add(table, definition.hash, definition.label, definition.id) {
-                self.undo(table, &definitions[..at]);
-                return Err(error);
-            }
-        }
-        Ok(())
+        let count = self.buckets.len();
+        let all = definitions_of(parts);
+        let threads = threads_for(rt, all);
+        let more = room_for(all, count);
+        let run = self.buckets.as_mut_slice();
+        apply_run(rt, table, parts, more, threads, count, 0, run)
     }
 
-    /// Takes the definitions back that were added last: as many of each key as there are here.
-    pub fn undo<T: Names>(&mut self, table: &T, definitions: &[Definition])
+    /// Takes the definitions back that were added last: as many of each key as there are in all parts.
+    pub fn undo<T: Names>(&mut self, table: &T, parts: &[&[Definition]])
         requires keyed { AreKeyed (T.key_at table.now) self.old }
-        requires hashed { AreHashed (T.key_at table.now) definitions.now }
+        requires hashed { AreHashed (T.key_at table.now) (joined parts.now) }
         ensures keyed { AreKeyed (T.key_at table.now) self.new }
         ensures definitions { (asked : Key) → definitions_at (T.key_at table.now) self.new asked
-            ≡ without_last (length (ids_with (T.key_at table.now) definitions.now asked)) (definitions_at (T.key_at table.now) self.old asked) }
+            ≡ without_last (length (ids_with (T.key_at table.now) (joined parts.now) asked)) (definitions_at (T.key_at table.now) self.old asked) }
         ensures overridden { (asked : Key) → overridden_at (T.key_at table.now) self.new asked ≡ overridden_at (T.key_at table.now) self.old asked }
         ensures labels { (asked : Key) → label_at (T.key_at table.now) self.new asked
             ≡ (if is_some (mapped_at (T.key_at table.now) self.new asked) then label_at (T.key_at table.now) self.old asked else None) }
     {
-        for definition in definitions {
-            self.take_last(table, definition.hash, definition.label);
-        }
+        let count = self.buckets.len();
+        let run = self.buckets.as_mut_slice();
+        undo_parts(table, count, 0, run, parts);
     }
 
     /// Gives up the definitions of each name behind its first, and their memory.

@@ -10,6 +10,9 @@ mod label;
 mod laws;
 mod mapped_labels;
 mod places;
+mod runs;
+mod shares;
+mod side_by_side;
 
 pub use bucket::Bucket;
 pub use buckets::Buckets;

@@ -33,6 +33,13 @@ impl Places {
         }
     }
 
+    /// Makes room for so many numbers more. What is noted stays.
+    pub(crate) fn reserve(&mut self, more: usize) -> Result<(), AllocError>
+        ensures { (number : ℕ) → places_at self.new number ≡ places_at self.old number }
+    {
+        self.first.reserve(more)
+    }
+
     /// The first place of the number.
     pub(crate) fn first(&self, number: u64) -> Option<usize>
         ensures { result ≡ slice_get (places_at self.now number) 0 }

@@ -11,6 +11,7 @@ use link_buckets::{Buckets, Definition, Definitions, Label, Names};
 use link_names::{Name, hash_bytes};
 use std::alloc::{AllocError, Global};
 use std::test::Fail;
+use std::thread::Threads;
 
 /// A name of a table, with its version where it has one.
 #[derive(Debug, Drop)]
@@ -199,26 +200,88 @@ const AFTER_BOTH: &str =
 const COUNTS: &[usize] = &[1, 2, 256];
 
 /// Definitions are added, and some of them are taken back.
-fn added_and_taken_back(alloc: Global, count: usize) -> Result<(String, String), AllocError>
+fn added_and_taken_back<R: Threads + Sync>(
+    rt: &R,
+    alloc: Global,
+    count: usize,
+) -> Result<(String, String), AllocError>
     requires { 0 < count }
 {
     let table = make_table(alloc)?;
     let mut buckets = Buckets::new(alloc, count)?;
     let first = definitions(alloc, &table, FIRST)?;
-    buckets.apply(&table, first.as_slice())?;
+    buckets.apply(rt, &table, &[first.as_slice()])?;
     let second = definitions(alloc, &table, SECOND)?;
-    buckets.apply(&table, second.as_slice())?;
+    buckets.apply(rt, &table, &[second.as_slice()])?;
     let both = all_shown(alloc, &buckets, &table)?;
-    buckets.undo(&table, second.as_slice());
+    buckets.undo(&table, &[second.as_slice()]);
     Ok((both, all_shown(alloc, &buckets, &table)?))
 }
 
 #[test]
 fn names_are_told_apart_in_any_number_of_buckets(rt: HostRuntime) -> Result<(), Fail> {
     for &count in COUNTS {
-        let (both, first) = added_and_taken_back(rt.alloc(), count.max(1))?;
+        let (both, first) = added_and_taken_back(&rt, rt.alloc(), count.max(1))?;
         assert_eq!(rt; both.as_str(), AFTER_BOTH);
         assert_eq!(rt; first.as_str(), AFTER_FIRST);
+    }
+    Ok(())
+}
+
+/// How often each entry is defined in a part: so often that threads share the definitions of two parts.
+const ROUNDS: u32 = 1000;
+
+/// Definitions of all entries again and again, each with the next id.
+fn many_definitions(alloc: Global, table: &Texts) -> Result<Vec<Definition>, AllocError>
+    ensures { IfOk result (λ v. AreHashed (⟦<Texts as Names>⟧.key_at table.now) v.items) }
+{
+    let mut definitions = Vec::new(alloc);
+    for id in 0..8 * ROUNDS {
+        let label = Label::Plain(id % 8);
+        if let Some(hash) = table.number(label) {
+            definitions.push(Definition { hash, label, id })?;
+        }
+    }
+    Ok(definitions)
+}
+
+/// How many definitions an entry's name has, with the first and the last of them.
+fn ends(buckets: &Buckets, table: &Texts, entry: usize) -> Option<(usize, u32, u32)>
+    requires { AreKeyed (⟦<Texts as Names>⟧.key_at table.now) buckets.now }
+{
+    let entry = table.entries.get(entry)?;
+    let name = entry.name.as_slice();
+    let version = entry.version.as_ref().map(|version| version.as_slice());
+    let definitions = buckets.definitions(table, hash_bytes(name), name, version)?;
+    let later = definitions.later();
+    Some((later.len(), definitions.first(), *later.last()?))
+}
+
+/// Two parts of many definitions are added.
+fn many_added<R: Threads + Sync>(
+    rt: &R,
+    alloc: Global,
+    table: &Texts,
+    count: usize,
+) -> Result<Buckets, AllocError>
+    requires { 0 < count }
+    ensures { IfOk result (λ bs. AreKeyed (⟦<Texts as Names>⟧.key_at table.now) bs) }
+{
+    let mut buckets = Buckets::new(alloc, count)?;
+    let part = many_definitions(alloc, table)?;
+    buckets.apply(rt, table, &[part.as_slice(), part.as_slice()])?;
+    Ok(buckets)
+}
+
+#[test]
+fn threads_share_many_definitions(rt: HostRuntime) -> Result<(), Fail> {
+    let table = make_table(rt.alloc())?;
+    for &count in COUNTS {
+        let buckets = many_added(&rt, rt.alloc(), &table, count.max(1))?;
+        assert_eq!(rt; ends(&buckets, &table, 0), Some((3999, 0, 7999)));
+        assert_eq!(rt; ends(&buckets, &table, 1), Some((1999, 1, 7993)));
+        assert_eq!(rt; ends(&buckets, &table, 6), Some((1999, 6, 7998)));
+        assert_eq!(rt; ends(&buckets, &table, 7), Some((3999, 0, 7999)));
     }
     Ok(())
 }

@@ -171,7 +171,7 @@ impl<P: Platform + Sync> SymbolDb<P> {
         let grown = grown_flags(alloc, flags, parts.as_slice())?;
         let mut entries = new_entries(alloc, held, held + more)?;
         self.table.append(&mut entries)?;
-        if let Err(error) = self.mapping.add_groups(alloc, groups, parts.as_slice()) {
+        if let Err(error) = self.mapping.add_groups(rt, alloc, groups, parts.as_slice()) {
             self.table.truncate(held);
             return Err(error);
         }

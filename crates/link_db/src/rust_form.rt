@@ -58,7 +58,8 @@ fn free_word(words: &mut [RawFlags], at: usize)
 
 /// No other file may take the place of what stays local.
 pub fn close_local(flags: &mut PerSymbolFlags)
-    ensures { numbers_of (words_of flags.new) ≡ map closed_if_local (numbers_of (words_of flags.old)) }
+    ensures numbers { numbers_of (words_of flags.new) ≡ map closed_if_local (numbers_of (words_of flags.old)) }
+    ensures len { length (words_of flags.new) ≡ length (words_of flags.old) }
 {
     close_words(flags.flags_mut());
 }

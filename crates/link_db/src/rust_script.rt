@@ -22,8 +22,9 @@ impl<P: Platform> SymbolDb<P> {
     pub fn handle_rust_version_script(&self, flags: &mut PerSymbolFlags)
         requires table { HasTable (seen self.now) }
         requires flags { length (words_of flags.old) ≡ length (symbol_names (seen self.now)) }
-        ensures { (demangle : Bytes → Bytes) (rules : Rules) → AreRulesOf (platform_of P.Platform) demangle (seen self.now).rules rules
+        ensures flags { (demangle : Bytes → Bytes) (rules : Rules) → AreRulesOf (platform_of P.Platform) demangle (seen self.now).rules rules
             → numbers_of (words_of flags.new) ≡ flags_by_script (seen self.now) rules.rust_names (numbers_of (words_of flags.old)) }
+        ensures len { length (words_of flags.new) ≡ length (words_of flags.old) }
     {
         match self.rules.rust_names() {
             Some(names) => {
@@ -38,7 +39,8 @@ impl<P: Platform> SymbolDb<P> {
     fn free_names(&self, flags: &mut PerSymbolFlags, names: &[Name])
         requires table { HasTable (seen self.now) }
         requires flags { length (words_of flags.old) ≡ length (symbol_names (seen self.now)) }
-        ensures { numbers_of (words_of flags.new) ≡ each_from (freed (freed_symbols (seen self.now) names.now)) 0 (numbers_of (words_of flags.old)) }
+        ensures numbers { numbers_of (words_of flags.new) ≡ each_from (freed (freed_symbols (seen self.now) names.now)) 0 (numbers_of (words_of flags.old)) }
+        ensures len { length (words_of flags.new) ≡ length (words_of flags.old) }
     {
         for name in names {
             self.free_name(flags, name.as_slice());

@@ -1,5 +1,4 @@
 pub mod Listing
-pub mod InParts
 pub mod Telling
 pub mod Overrides
 pub mod Wraps
@@ -7,3 +6,4 @@ pub mod Grown
 pub mod Batches
 pub mod Synthetics
 pub mod Named
+pub mod Apart

@@ -1,15 +1,15 @@
 -- The lists that the definitions of symbols make.
-use Rattle.std.proofs.Common.{◌≡◌, ◌∙◌, ◌+◌, ◌<◌, ◌&&◌, ◌++◌, ℕ, suc, Bool, true, false, List, [], ◌∷◌, length, map, filter, Option, Some, None, refl, sym, ap, subst, arith}
+use Rattle.std.proofs.Common.{◌≡◌, ◌∙◌, ◌+◌, ◌<◌, ◌&&◌, ◌++◌, ℕ, suc, Bool, true, false, List, [], ◌∷◌, length, Option, Some, None, refl, sym, ap, subst, arith}
 use Rattle.std.specs.Prelude.{All, slice_get}
 use Rattle.std.specs.Option.{is_some, option_map}
 use Rattle.std.specs.Str.{bytes_eq}
-use Rattle.std.proofs.lemmas.List.{map-append}
-use Rattle.std.proofs.lemmas.List.Elements.{All-append, All-cons, All-nil, filter-append}
+use Rattle.std.proofs.lemmas.List.Elements.{All-append, All-cons, All-nil}
 use Rattle.link_names.specs.NameHash.{fnv_1a}
 use Rattle.link_buckets.specs.declared.definition.Definition.{Definition}
 use Rattle.link_buckets.specs.declared.label.Label.{Label}
 use Rattle.link_buckets.specs.declared.label.Label.TheVariants.{Plain, Versioned}
 use Rattle.link_buckets.specs.Buckets.{AreHashed, ids_with}
+use Rattle.link_buckets.proofs.Running.{ids_with-append}
 use Rattle.link_buckets.specs.Keys.{Key, leads_to, number_of, same_key}
 use Rattle.link_input.specs.Symbols.{Symbol}
 use Rattle.link_reading.specs.Definitions.{definition_by, definitions_by, definitions_from}
@@ -41,13 +41,6 @@ lead_first names n x symbols lead = let e : n + 0 ≡ n = omega arith in subst (
 -- and the label of its version
 lead_first_versioned : (names : Label → Option Key) (n : ℕ) (x : Symbol) (symbols : List Symbol) (version : List ℕ) → LeadFrom names n (x ∷ symbols) → x.version ≡ Some version → names (Versioned n) ≡ Some (versioned_key x.name version)
 lead_first_versioned names n x symbols version lead some = let e : n + 0 ≡ n = omega arith in subst (λ (k : ℕ). names (Versioned k) ≡ Some (versioned_key x.name version)) e (lead.versioned 0 x version refl some)
-
--- the ids of definitions and of others behind them
-pub ids_with-append : (names : Label → Option Key) (some others : List Definition) (key : Key) → ids_with names (some ++ others) key ≡ ids_with names some key ++ ids_with names others key
-ids_with-append names some others key =
-    let p : Definition → Bool = λ d. leads_to names d.label key in
-    let id : Definition → ℕ = λ d. d.id in
-    ap (map id) (filter-append p some others) ∙ map-append id (filter p some) (filter p others)
 
 -- what is kept in front
 kept_first : {X : Type 0} (b : Bool) (x : X) (xs : List X) → kept_if b x [] ++ xs ≡ kept_if b x xs

@@ -1,5 +1,5 @@
 -- Plain names that labels lead to, and what they are mapped to.
-use Rattle.std.proofs.Common.{◌≡◌, ◌∙◌, ◌<◌, ℕ, Bool, true, false, cond, List, length, get_or, Option, Some, None, refl, sym, ap, subst, arith}
+use Rattle.std.proofs.Common.{◌≡◌, ◌∙◌, ◌<◌, ℕ, cond, List, length, get_or, Option, Some, None, refl, sym, ap, subst}
 use Rattle.std.specs.Prelude.{All, AllPairs, Contains, IsSomeAnd, slice_get, is_none}
 use Rattle.std.specs.Option.{option_and_then, option_map}
 use Rattle.std.proofs.lemmas.List.Elements.{All-weaker}

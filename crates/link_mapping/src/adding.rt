@@ -9,8 +9,9 @@ use link_groups::Group;
 use link_input::Platform;
 use link_reading::ReadSymbols;
 use std::alloc::{AllocError, Global};
+use std::thread::Threads;
 
-impl<P: Platform> SymbolMapping<P> {
+impl<P: Platform + Sync> SymbolMapping<P> {
     ghost use Rattle.std.specs.Prelude.{◌++◌, None, OnErr, OnOk, length};
     ghost use Rattle.link_files.specs.GroupFiles.{AreGroupsOfLink, symbols_in};
     ghost use Rattle.link_files.specs.HeldFiles.{names_in};
@@ -21,11 +22,12 @@ impl<P: Platform> SymbolMapping<P> {
     ghost use Rattle.link_mapping.specs.Seen.{seen};
 
     /// Adds the groups of a batch, with what was read of them: the definitions of each name come behind those that it has, and each name is
-    /// mapped to its first definition again. Mirrors Wild's `SymbolDb::add_inputs`.
+    /// mapped to its first definition again. Where there are many, buckets take theirs side by side. Mirrors Wild's `SymbolDb::add_inputs`.
     ///
     /// After a refusal, which is want of memory, all is as before.
-    pub fn add_groups(
+    pub fn add_groups<R: Threads + Sync>(
         &mut self,
+        rt: &R,
         alloc: Global,
         groups: Vec<Group<P>>,
         parts: &[ReadSymbols],
@@ -40,7 +42,7 @@ impl<P: Platform> SymbolMapping<P> {
         let held_groups = self.tables.files.groups().len();
         let held_files = self.tables.files.num_files();
         self.tables.files.add_groups(alloc, groups)?;
-        if let Err(error) = apply_parts(&mut self.buckets, &self.tables, parts) {
+        if let Err(error) = apply_parts(rt, alloc, &mut self.buckets, &self.tables, parts) {
             self.tables.files.remove_groups(held_groups, held_files);
             return Err(error);
         }

@@ -1,8 +1,9 @@
 //! The tables that hold the names.
 
-ghost use Rattle.std.specs.Prelude.{◌≡◌, Option, option_map, slice_get};
+ghost use Rattle.std.specs.Prelude.{◌≡◌, Option, Some, is_some, option_map, slice_get};
 ghost use Rattle.std.specs.Option.{option_eq};
 ghost use Rattle.std.specs.Str.{bytes_eq};
+ghost use Rattle.link_buckets.specs.Keys.{Key};
 ghost use Rattle.link_files.specs.HeldFiles.{names_in};
 ghost use Rattle.link_mapping.specs.PlainNames.{plain_name};
 ghost use Rattle.link_mapping.specs.Tables.{key_at};
@@ -43,6 +44,13 @@ impl<P: Platform> NameTables<P> {
         Some(self.files.symbol_name(id).as_slice())
     }
 
+    /// Whether what the label leads to has a version: no name is looked up.
+    fn is_versioned(&self, label: Label) -> bool
+        ensures { (key : Key) → key_at self.now.files self.now.overridden.items label ≡ Some key → is_some key.version ≡ result }
+    {
+        matches!(label, Label::Versioned(_))
+    }
+
     /// The name and the version to which the label leads.
     fn key(&self, label: Label) -> Option<(&[u8], Option<&[u8]>)>
         ensures { option_map (λ k. record { name = k.0.now; version = option_map (λ v. v.now) k.1 }) result ≡ key_at self.now.files self.now.overridden.items label }
@@ -77,6 +85,9 @@ impl<P: Platform> Names for NameTables<P> {
     ghost key_at = { λ tables label. key_at tables.files tables.overridden.items label };
 
     fn has_key(&self, label: Label, name: &[u8], version: Option<&[u8]>) -> bool {
+        if self.is_versioned(label) != version.is_some() {
+            return false;
+        }
         match self.key(label) {
             Some((own, own_version)) => own == name && is_version(own_version, version),
             None => false,
@@ -84,6 +95,9 @@ impl<P: Platform> Names for NameTables<P> {
     }
 
     fn have_same_key(&self, a: Label, b: Label) -> bool {
+        if self.is_versioned(a) != self.is_versioned(b) {
+            return false;
+        }
         match self.key(b) {
             Some((name, version)) => self.has_key(a, name, version),
             None => false,

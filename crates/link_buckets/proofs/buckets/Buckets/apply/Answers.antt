@@ -1,39 +1,75 @@
-use Rattle.std.proofs.Common.{◌∙◌, refl, get_or, ◌≡◌, take, ap, ℕ, Option, None, if◌then◌else◌}
-use Rattle.link_buckets.specs.declared.definition.Definition.{Definition}
-use Rattle.link_buckets.specs.declared.label.Label.TheVariants.{Plain}
-use Rattle.std.specs.Option.{is_some}
-use Rattle.link_buckets.specs.Buckets.{definitions_at, label_at, overridden_at, mapped_at, buckets_in, first_label, ids_with}
-use Rattle.link_buckets.proofs.Rounds.{labelled_at}
-use Rattle.link_buckets.proofs.Applied.{added_more, labelled_more, labelled_back, taken_back}
+use Rattle.std.proofs.Common.{◌∙◌, ◌++◌, ◌<◌, [], None, drop, length, subst, sym, take}
+use Rattle.std.proofs.lemmas.List.{append-nil}
+use Rattle.std.proofs.lemmas.Result.{on_err_weaker, on_ok_weaker}
+use Rattle.link_buckets.specs.Bucket.{definitions_in, label_in}
+use Rattle.link_buckets.specs.Buckets.{asked_of}
+use Rattle.link_buckets.specs.Runs.{joined}
+use Rattle.link_buckets.proofs.Changes.{on_both}
+use Rattle.link_buckets.proofs.Releasing.{all_written}
+use Rattle.link_buckets.proofs.Running.{or_none, run_own}
+use Rattle.link_buckets.proofs.Whole.{grown_definitions, grown_labels, grown_overridden, whole_grown, whole_keyed}
 use Rattle.link_buckets.proofs.buckets.Buckets.apply.Goals as goal
 
-pub loop-at-preserved : goal.loop-at-preserved
-loop-at-preserved g c =
+pub returns-clause-keyed : goal.returns-clause-keyed
+returns-clause-keyed g c =
     let names = g.T.Names.key_at c.args.table.now in
-    let ds = c.args.definitions.now in
-    let i = c.loop-at.at in
-    let z : Definition = record { hash = 0; label = Plain 0; id = 0 } in
-    let so_far = c.loop-at.invariant in
-    record {
-      keyed = c.in_default.ensures.keyed;
-      definitions = λ asked. added_more names ds i (get_or ds i z) z asked (definitions_at names c.args.self.now asked) (definitions_at names c.loop-at.self asked) (definitions_at names c.add.new.self asked) c.loop-at-test.true refl (so_far.definitions asked) (c.in_default.ensures.definitions asked);
-      labels = λ asked. labelled_more names ds i (get_or ds i z) z asked (label_at names c.args.self.now asked) (label_at names c.loop-at.self asked) (label_at names c.add.new.self asked) c.loop-at-test.true refl (so_far.labels asked) (c.in_default.ensures.labels asked);
-      overridden = λ asked. c.in_default.ensures.overridden asked ∙ so_far.overridden asked;
-    }
+    let olds = c.args.self.now.buckets.items in
+    let run = c.apply_run.new.run in
+    let lent = c.as_mut_slice-run in
+    let all = c.args.self.now.buckets.ok.0 in
+    let news = take c.args.self.now.buckets.len (run ++ drop (length run) olds) in
+    on_both c.apply_run.result
+    (on_ok_weaker c.apply_run.result (λ grown. let all_grown = whole_grown names c.len-count.result (joined c.args.parts.now) olds lent.result.now news run (c.len-count.ensures ∙ all) lent.ensures.value (all_written _ run lent.result.now olds all lent.ensures.value grown.len) grown in whole_keyed names _ (length olds) (sym all_grown.len) (run_own names (length olds) 0 (joined c.args.parts.now) olds news all_grown)) c.apply_run.ensures.ok)
+    (on_err_weaker c.apply_run.result (λ grown. let all_grown = whole_grown names c.len-count.result [] olds lent.result.now news run (c.len-count.ensures ∙ all) lent.ensures.value (all_written _ run lent.result.now olds all lent.ensures.value grown.len) grown in whole_keyed names _ (length olds) (sym all_grown.len) (run_own names (length olds) 0 [] olds news all_grown)) c.apply_run.ensures.err)
 
-pub returns-in-Err-clause-labels_err : goal.returns-in-Err-clause-labels_err
-returns-in-Err-clause-labels_err g c =
+pub returns-clause-definitions : goal.returns-clause-definitions
+returns-clause-definitions g c =
     let names = g.T.Names.key_at c.args.table.now in
-    let ds = c.args.definitions.now in
-    let so_far = c.loop-at.invariant in
-    let failed = c.in-Err.ensures in
-    let bs = c.args.self.now in
-    λ asked.
-    let ids : definitions_at names c.undo.new.self asked ≡ definitions_at names bs asked =
-    taken_back (definitions_at names bs asked) (ids_with names (take c.loop-at.at ds) asked) (definitions_at names c.add.new.self asked) (definitions_at names c.undo.new.self asked)
-    (failed.err asked ∙ so_far.definitions asked) (c.undo.ensures.definitions asked) in
-    let over : overridden_at names c.undo.new.self asked ≡ overridden_at names bs asked = c.undo.ensures.overridden asked ∙ failed.overridden asked ∙ so_far.overridden asked in
-    let mapped : mapped_at names c.undo.new.self asked ≡ mapped_at names bs asked = rw (ids, over) refl in
-    labelled_back (label_at names bs asked) (label_at names c.add.new.self asked) (label_at names c.undo.new.self asked) (first_label names (take c.loop-at.at ds) asked) (mapped_at names bs asked)
-    (labelled_at names (buckets_in bs) asked) (failed.labels_err asked ∙ so_far.labels asked)
-    (c.undo.ensures.labels asked ∙ ap (λ (o : Option ℕ). if is_some o then label_at names c.add.new.self asked else None) mapped)
+    let olds = c.args.self.now.buckets.items in
+    let run = c.apply_run.new.run in
+    let lent = c.as_mut_slice-run in
+    let all = c.args.self.now.buckets.ok.0 in
+    let news = take c.args.self.now.buckets.len (run ++ drop (length run) olds) in
+    on_ok_weaker c.apply_run.result (λ grown. grown_definitions names (joined c.args.parts.now) olds news (subst (λ n. 0 < n) all c.args.self.now.filled) (whole_grown names c.len-count.result (joined c.args.parts.now) olds lent.result.now news run (c.len-count.ensures ∙ all) lent.ensures.value (all_written _ run lent.result.now olds all lent.ensures.value grown.len) grown)) c.apply_run.ensures.ok
+
+pub returns-clause-err : goal.returns-clause-err
+returns-clause-err g c =
+    let names = g.T.Names.key_at c.args.table.now in
+    let olds = c.args.self.now.buckets.items in
+    let run = c.apply_run.new.run in
+    let lent = c.as_mut_slice-run in
+    let all = c.args.self.now.buckets.ok.0 in
+    let news = take c.args.self.now.buckets.len (run ++ drop (length run) olds) in
+    on_err_weaker c.apply_run.result (λ grown asked. grown_definitions names [] olds news (subst (λ n. 0 < n) all c.args.self.now.filled) (whole_grown names c.len-count.result [] olds lent.result.now news run (c.len-count.ensures ∙ all) lent.ensures.value (all_written _ run lent.result.now olds all lent.ensures.value grown.len) grown) asked ∙ append-nil (asked_of (definitions_in names) [] olds asked)) c.apply_run.ensures.err
+
+pub returns-clause-overridden : goal.returns-clause-overridden
+returns-clause-overridden g c =
+    let names = g.T.Names.key_at c.args.table.now in
+    let olds = c.args.self.now.buckets.items in
+    let run = c.apply_run.new.run in
+    let lent = c.as_mut_slice-run in
+    let all = c.args.self.now.buckets.ok.0 in
+    let news = take c.args.self.now.buckets.len (run ++ drop (length run) olds) in
+    on_both c.apply_run.result
+    (on_ok_weaker c.apply_run.result (λ grown. grown_overridden names (joined c.args.parts.now) olds news (subst (λ n. 0 < n) all c.args.self.now.filled) (whole_grown names c.len-count.result (joined c.args.parts.now) olds lent.result.now news run (c.len-count.ensures ∙ all) lent.ensures.value (all_written _ run lent.result.now olds all lent.ensures.value grown.len) grown)) c.apply_run.ensures.ok)
+    (on_err_weaker c.apply_run.result (λ grown. grown_overridden names [] olds news (subst (λ n. 0 < n) all c.args.self.now.filled) (whole_grown names c.len-count.result [] olds lent.result.now news run (c.len-count.ensures ∙ all) lent.ensures.value (all_written _ run lent.result.now olds all lent.ensures.value grown.len) grown)) c.apply_run.ensures.err)
+
+pub returns-clause-labels : goal.returns-clause-labels
+returns-clause-labels g c =
+    let names = g.T.Names.key_at c.args.table.now in
+    let olds = c.args.self.now.buckets.items in
+    let run = c.apply_run.new.run in
+    let lent = c.as_mut_slice-run in
+    let all = c.args.self.now.buckets.ok.0 in
+    let news = take c.args.self.now.buckets.len (run ++ drop (length run) olds) in
+    on_ok_weaker c.apply_run.result (λ grown. grown_labels names (joined c.args.parts.now) olds news (subst (λ n. 0 < n) all c.args.self.now.filled) (whole_grown names c.len-count.result (joined c.args.parts.now) olds lent.result.now news run (c.len-count.ensures ∙ all) lent.ensures.value (all_written _ run lent.result.now olds all lent.ensures.value grown.len) grown)) c.apply_run.ensures.ok
+
+pub returns-clause-labels_err : goal.returns-clause-labels_err
+returns-clause-labels_err g c =
+    let names = g.T.Names.key_at c.args.table.now in
+    let olds = c.args.self.now.buckets.items in
+    let run = c.apply_run.new.run in
+    let lent = c.as_mut_slice-run in
+    let all = c.args.self.now.buckets.ok.0 in
+    let news = take c.args.self.now.buckets.len (run ++ drop (length run) olds) in
+    on_err_weaker c.apply_run.result (λ grown asked. grown_labels names [] olds news (subst (λ n. 0 < n) all c.args.self.now.filled) (whole_grown names c.len-count.result [] olds lent.result.now news run (c.len-count.ensures ∙ all) lent.ensures.value (all_written _ run lent.result.now olds all lent.ensures.value grown.len) grown) asked ∙ or_none (asked_of (label_in names) None olds asked)) c.apply_run.ensures.err

@@ -1,4 +1,4 @@
-use Rattle.std.proofs.Common.{◌≡◌, ◌≢◌, ◌∙◌, ℕ, List, Option, Some, ap, subst, sym}
+use Rattle.std.proofs.Common.{◌≡◌, ◌≢◌, ◌∙◌, ℕ, List, Some, ap, subst, sym}
 use Rattle.std.specs.Prelude.{All, AllPairs, Contains, IsSomeAnd}
 use Rattle.std.specs.List.{flat_map}
 use Rattle.link_buckets.specs.declared.bucket.Bucket.{Bucket}
@@ -6,7 +6,6 @@ use Rattle.link_buckets.specs.declared.label.Label.{Label}
 use Rattle.link_buckets.specs.Bucket.{heads_in}
 use Rattle.link_buckets.specs.Buckets.{mapped_at}
 use Rattle.link_buckets.specs.Heads.{mapped_labels}
-use Rattle.link_buckets.specs.Keys.{Key}
 use Rattle.link_buckets.proofs.Labels.{labels_complete, labels_mapped, labels_once}
 use Rattle.link_buckets.proofs.buckets.Buckets.mapped_labels.Goals as goal
 

@@ -1,35 +1,50 @@
-use Rattle.std.proofs.Common.{◌∙◌, refl, get_or, ◌-◌, sym, length, take_all, arith}
-use Rattle.link_buckets.specs.declared.definition.Definition.{Definition}
-use Rattle.link_buckets.specs.declared.label.Label.TheVariants.{Plain}
-use Rattle.link_buckets.specs.Buckets.{definitions_at, label_at, overridden_at, mapped_at, buckets_in}
-use Rattle.link_buckets.specs.Keys.{leads_to}
-use Rattle.link_buckets.proofs.Rounds.{labelled_at}
-use Rattle.link_buckets.proofs.Applied.{taken_more, labelled_less, label_stays}
+use Rattle.std.proofs.Common.{◌∙◌, ◌++◌, ◌<◌, drop, length, subst, sym, take}
+use Rattle.link_buckets.specs.Runs.{joined}
+use Rattle.link_buckets.proofs.Releasing.{all_written}
+use Rattle.link_buckets.proofs.Running.{run_taken_own}
+use Rattle.link_buckets.proofs.Whole.{taken_definitions, taken_labels, taken_overridden, whole_keyed, whole_taken}
 use Rattle.link_buckets.proofs.buckets.Buckets.undo.Goals as goal
 
-pub loop-definition-preserved : goal.loop-definition-preserved
-loop-definition-preserved g c =
+pub returns-clause-keyed : goal.returns-clause-keyed
+returns-clause-keyed g c =
     let names = g.T.Names.key_at c.args.table.now in
-    let ds = c.args.definitions.now in
-    let i = c.loop-definition.definition-index in
-    let z : Definition = record { hash = 0; label = Plain 0; id = 0 } in
-    let so_far = c.loop-definition.invariant in
-    record {
-      keyed = c.take_last.ensures.keyed;
-      definitions = λ asked. taken_more names ds i (get_or ds i z) z asked (definitions_at names c.args.self.now asked) (definitions_at names c.loop-definition.self asked) (definitions_at names c.take_last.new.self asked) c.loop-definition-test.true refl (so_far.definitions asked) (c.take_last.ensures.definitions asked);
-      labels = λ asked. labelled_less (leads_to names (get_or ds i z).label asked) (definitions_at names c.loop-definition.self asked) (definitions_at names c.take_last.new.self asked)
-          (overridden_at names c.loop-definition.self asked) (overridden_at names c.take_last.new.self asked) (label_at names c.args.self.now asked) (label_at names c.loop-definition.self asked) (label_at names c.take_last.new.self asked)
-          (c.take_last.ensures.definitions asked) (c.take_last.ensures.overridden asked) (so_far.labels asked) (c.take_last.ensures.labels asked);
-      overridden = λ asked. c.take_last.ensures.overridden asked ∙ so_far.overridden asked;
-    }
+    let olds = c.args.self.now.buckets.items in
+    let run = c.undo_parts.new.run in
+    let lent = c.as_mut_slice-run in
+    let all = c.args.self.now.buckets.ok.0 in
+    let news = take c.args.self.now.buckets.len (run ++ drop (length run) olds) in
+    let taken = whole_taken names c.len-count.result (joined c.args.parts.now) olds lent.result.now news run (c.len-count.ensures ∙ all) lent.ensures.value (all_written _ run lent.result.now olds all lent.ensures.value c.undo_parts.ensures.len) c.undo_parts.ensures in
+    whole_keyed names _ (length olds) (sym taken.len) (run_taken_own names (length olds) 0 (joined c.args.parts.now) olds news taken)
 
-pub loop-definition-init : goal.loop-definition-init
-loop-definition-init g c =
+pub returns-clause-definitions : goal.returns-clause-definitions
+returns-clause-definitions g c =
     let names = g.T.Names.key_at c.args.table.now in
-    let bs = c.args.self.now in
-    record {
-      keyed = c.requires.keyed;
-      definitions = λ asked. sym (take_all (length (definitions_at names bs asked) - 0) (definitions_at names bs asked) (omega arith));
-      labels = λ asked. label_stays (label_at names bs asked) (mapped_at names bs asked) (labelled_at names (buckets_in bs) asked);
-      overridden = λ asked. refl;
-    }
+    let olds = c.args.self.now.buckets.items in
+    let run = c.undo_parts.new.run in
+    let lent = c.as_mut_slice-run in
+    let all = c.args.self.now.buckets.ok.0 in
+    let news = take c.args.self.now.buckets.len (run ++ drop (length run) olds) in
+    let taken = whole_taken names c.len-count.result (joined c.args.parts.now) olds lent.result.now news run (c.len-count.ensures ∙ all) lent.ensures.value (all_written _ run lent.result.now olds all lent.ensures.value c.undo_parts.ensures.len) c.undo_parts.ensures in
+    taken_definitions names (joined c.args.parts.now) olds news (subst (λ n. 0 < n) all c.args.self.now.filled) taken
+
+pub returns-clause-overridden : goal.returns-clause-overridden
+returns-clause-overridden g c =
+    let names = g.T.Names.key_at c.args.table.now in
+    let olds = c.args.self.now.buckets.items in
+    let run = c.undo_parts.new.run in
+    let lent = c.as_mut_slice-run in
+    let all = c.args.self.now.buckets.ok.0 in
+    let news = take c.args.self.now.buckets.len (run ++ drop (length run) olds) in
+    let taken = whole_taken names c.len-count.result (joined c.args.parts.now) olds lent.result.now news run (c.len-count.ensures ∙ all) lent.ensures.value (all_written _ run lent.result.now olds all lent.ensures.value c.undo_parts.ensures.len) c.undo_parts.ensures in
+    taken_overridden names (joined c.args.parts.now) olds news (subst (λ n. 0 < n) all c.args.self.now.filled) taken
+
+pub returns-clause-labels : goal.returns-clause-labels
+returns-clause-labels g c =
+    let names = g.T.Names.key_at c.args.table.now in
+    let olds = c.args.self.now.buckets.items in
+    let run = c.undo_parts.new.run in
+    let lent = c.as_mut_slice-run in
+    let all = c.args.self.now.buckets.ok.0 in
+    let news = take c.args.self.now.buckets.len (run ++ drop (length run) olds) in
+    let taken = whole_taken names c.len-count.result (joined c.args.parts.now) olds lent.result.now news run (c.len-count.ensures ∙ all) lent.ensures.value (all_written _ run lent.result.now olds all lent.ensures.value c.undo_parts.ensures.len) c.undo_parts.ensures in
+    taken_labels names (joined c.args.parts.now) olds news (subst (λ n. 0 < n) all c.args.self.now.filled) taken

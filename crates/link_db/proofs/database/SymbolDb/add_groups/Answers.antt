@@ -58,7 +58,7 @@ new_entries-requires-clause-fits g c =
     omega (arith, fit, held, more)
 
 pub add_groups-requires-clause-parts : goal.add_groups-requires-clause-parts
-add_groups-requires-clause-parts g c =
+add_groups-requires-clause-parts g c κs within =
     let files = (seen c.args.self.now).mapping.files in
     let tabled = tabled-names files c.files.result.now c.args.groups.items c.num_symbols-held.result c.files.ensures c.num_symbols-held.ensures.value (c.num_symbols-held.ensures.tabled c.args.groups.items) c.requires.groups in
     ap (flat_map (λ (p : ReadSymbols). p.definitions.items)) c.as_slice-4.ensures.value

@@ -27,8 +27,8 @@ loop-name-preserved g c =
     (ap (each_from (freed (freed_symbols db rest)) 0) after ∙ freed-named db name rest words ∙ here, c.free_name.ensures.len ∙ c.loop-name.invariant.1)
 
 -- no name is left
-pub returns : goal.returns
-returns g c =
+pub returns-clause-numbers : goal.returns-clause-numbers
+returns-clause-numbers g c =
     let db = seen c.args.self.now in
     let names = c.args.names.now in
     let words = numbers_of (words_of c.loop-name.flags) in

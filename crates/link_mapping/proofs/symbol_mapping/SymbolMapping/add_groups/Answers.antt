@@ -13,7 +13,7 @@ use Rattle.link_mapping.proofs.Overrides.{Same, same_named, same_told}
 use Rattle.link_mapping.proofs.symbol_mapping.SymbolMapping.add_groups.Goals as goal
 
 pub apply_parts-requires-clause-keyed : goal.apply_parts-requires-clause-keyed
-apply_parts-requires-clause-keyed g c =
+apply_parts-requires-clause-keyed g c κs within =
     let m = c.args.self.now in
     let held = m.tables.files in
     let new = c.add_groups.new.self in
@@ -22,7 +22,7 @@ apply_parts-requires-clause-keyed g c =
     (grown_named held new names m.buckets (comes_grow held new _ comes) m.named).keyed
 
 pub apply_parts-requires-clause-hashed : goal.apply_parts-requires-clause-hashed
-apply_parts-requires-clause-hashed g c =
+apply_parts-requires-clause-hashed g c κs within =
     let m = c.args.self.now in
     let held = m.tables.files in
     let new = c.add_groups.new.self in
