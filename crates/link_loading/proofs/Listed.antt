@@ -2,7 +2,6 @@
 use Rattle.std.proofs.Common.{◌≡◌, ℕ, zero, suc, ◌+◌, ◌∙◌, ◌++◌, List, [], ◌∷◌, Option, Some, None, length, refl, sym, ap, inl, inr, arith}
 use Rattle.std.specs.List.{Contains, slice_get}
 use Rattle.std.specs.Option.{option_to_list}
-use Rattle.std.proofs.lemmas.List.{append_assoc}
 use Rattle.std.proofs.lemmas.List.Elements.{Contains-append_cases, Contains-append_left, Contains-append_right}
 use Rattle.link_rules.specs.Places.{each_from, some_from}
 
@@ -58,12 +57,3 @@ each-append f i (x ∷ xs) ys =
 pub each-length : {X Y : Type 0} (f : ℕ → X → Y) (i : ℕ) (xs : List X) → length (each_from f i xs) ≡ length xs
 each-length f i [] = refl
 each-length f i (x ∷ xs) = ap suc (each-length f (i + 1) xs)
-
--- one place more
-pub each-more : {X Y : Type 0} (f : ℕ → X → Y) (old new all : List Y) (i id next : ℕ) (x : X) (y : Y) (xs rest : List X)
-    → id ≡ i → xs ≡ x ∷ rest → next ≡ i + 1 → y ≡ f id x → new ≡ old ++ y ∷ [] → old ++ each_from f i xs ≡ all → new ++ each_from f next rest ≡ all
-each-more f old new all i id next x y xs rest at is more gives pushed before =
-    ap (λ l. l ++ each_from f next rest) (pushed ∙ ap (λ z. old ++ z ∷ []) (gives ∙ ap (λ n. f n x) at))
-    ∙ (ap (λ n. (old ++ f i x ∷ []) ++ each_from f n rest) more
-    ∙ (append_assoc old (f i x ∷ []) (each_from f (i + 1) rest)
-    ∙ (ap (λ l. old ++ each_from f i l) (sym is) ∙ before)))

@@ -8,8 +8,6 @@ mod requests;
 mod roots;
 mod sources;
 mod targets;
-#[cfg(test)]
-mod tests;
 
 pub use loading::{loaded_objects, request_edges};
 pub use names::{referred_names, root_names};

@@ -1,10 +1,12 @@
 //! What each reference stands for.
 
-ghost use Rattle.std.specs.Prelude.{◌≡◌, IfOk};
+ghost use Rattle.std.specs.Prelude.{◌≡◌, ◌<◌, IfOk, IfSome, length};
 ghost use Rattle.link_loader.specs.Holds.{platform_of};
 ghost use Rattle.link_rules.specs.Places.{Bytes};
 ghost use Rattle.link_rules.specs.Targets.{target};
 ghost use Rattle.link_rules.specs.World.{Stage};
+ghost use Rattle.link_symbols.specs.Lookups.{AreBelow};
+ghost use Rattle.link_db.specs.Database.{symbol_names};
 ghost use Rattle.link_db.specs.Seen.{seen};
 ghost use Rattle.link_stage.specs.AtStage.{IsAtStage};
 ghost use Rattle.link_loading.specs.Targets.{all_targets, reference_target};
@@ -29,7 +31,8 @@ fn key_of<'a>(symbol: &SymbolView<'a>) -> SymbolKey<'a>
 
 /// What a reference stands for by the names of all batches so far.
 fn looked_up<P: Platform>(db: &SymbolDb<P>, symbol: &SymbolView) -> Option<SymbolId>
-    ensures { (demangle : Bytes → Bytes) (w : Stage) → IsAtStage (platform_of P.Platform) demangle (seen db.now) w → result ≡ target w symbol.now }
+    ensures value { (demangle : Bytes → Bytes) (w : Stage) → IsAtStage (platform_of P.Platform) demangle (seen db.now) w → result ≡ target w symbol.now }
+    ensures below { IfSome result (λ t. t < length (symbol_names (seen db.now))) }
 {
     db.get(&key_of(symbol), symbol.is_open())
 }
@@ -41,8 +44,10 @@ fn reference_target<P: Platform>(
     id: SymbolId,
     symbol: &SymbolView,
 ) -> Option<SymbolId>
-    ensures { (demangle : Bytes → Bytes) (w : Stage) → IsAtStage (platform_of P.Platform) demangle (seen db.now) w → w.earlier.targets ≡ earlier.now
+    requires { AreBelow (length (symbol_names (seen db.now))) earlier.now }
+    ensures value { (demangle : Bytes → Bytes) (w : Stage) → IsAtStage (platform_of P.Platform) demangle (seen db.now) w → w.earlier.targets ≡ earlier.now
         → result ≡ reference_target w id symbol.now }
+    ensures below { IfSome result (λ t. t < length (symbol_names (seen db.now))) }
 {
     if !symbol.is_reference() {
         return None;
@@ -54,14 +59,16 @@ fn reference_target<P: Platform>(
 }
 
 /// What each symbol stands for, where it is a reference, by the id of the symbol. What it stood for after an earlier batch stays; any
-/// other is looked up. The only refusal is want of memory.
+/// other is looked up. Those of an earlier batch are of symbols of the database. The only refusal is want of memory.
 pub fn reference_targets<P: Platform>(
     alloc: Global,
     db: &SymbolDb<P>,
     earlier: &[Option<SymbolId>],
 ) -> Result<Vec<Option<SymbolId>>, AllocError>
-    ensures { IfOk result (λ targets. (demangle : Bytes → Bytes) (w : Stage) → IsAtStage (platform_of P.Platform) demangle (seen db.now) w
+    requires { AreBelow (length (symbol_names (seen db.now))) earlier.now }
+    ensures value { IfOk result (λ targets. (demangle : Bytes → Bytes) (w : Stage) → IsAtStage (platform_of P.Platform) demangle (seen db.now) w
         → w.earlier.targets ≡ earlier.now → targets.items ≡ all_targets w) }
+    ensures below { IfOk result (λ targets. AreBelow (length (symbol_names (seen db.now))) targets.items) }
 {
     let mut targets = Vec::new(alloc);
     for (id, symbol) in symbols(db.files()) {

@@ -6,10 +6,8 @@ mod columns;
 mod laws;
 mod marks;
 mod targets;
-#[cfg(test)]
-mod tests;
 
 pub use columns::{dynamic_symbols, held_symbols, object_places, visibilities};
 pub use laws::{kept_targets_are_those_of_a_link, marks_make_the_flags};
-pub use marks::{mark_names, mark_targets};
+pub use marks::{mark_names, mark_symbol, mark_targets};
 pub use targets::loaded_targets;

@@ -54,6 +54,13 @@ fn mark(words: &mut [RawFlags], symbol: SymbolId, flags: ValueFlags)
     }
 }
 
+/// Joins the flags of a symbol, if it has a word, with others. Takes no memory.
+pub fn mark_symbol(symbol: SymbolId, bits: ValueFlags, flags: &mut PerSymbolFlags)
+    ensures flags { numbers_of (words_of flags.new) ≡ with_marks (mark_on symbol bits.0 ∷ []) (numbers_of (words_of flags.old)) }
+{
+    mark(flags.flags_mut(), symbol, bits);
+}
+
 /// The mark of a symbol on what it stands for, if that is another one.
 fn mark_target(
     dynamic: &[bool],

@@ -1,8 +1,9 @@
 //! What the references of loaded objects stand for.
 
-ghost use Rattle.std.specs.Prelude.{◌≡◌, IfOk};
+ghost use Rattle.std.specs.Prelude.{◌≡◌, ◌<◌, IfOk, IfSome, ℕ};
 ghost use Rattle.link_files.specs.GroupFiles.{symbols_in};
 ghost use Rattle.link_rules.specs.Loading.{is_origin_loaded};
+ghost use Rattle.link_symbols.specs.Lookups.{AreBelow};
 ghost use Rattle.link_marking.specs.Targets.{target_if_loaded, targets_of_loaded};
 
 use link_files::Files;
@@ -31,7 +32,8 @@ fn target_if_loaded(
     id: SymbolId,
     symbol: &SymbolView,
 ) -> Option<SymbolId>
-    ensures { result ≡ target_if_loaded targets.now loaded.now id symbol.now }
+    ensures value { result ≡ target_if_loaded targets.now loaded.now id symbol.now }
+    ensures below { (n : ℕ) → AreBelow n targets.now → IfSome result (λ t. t < n) }
 {
     if is_loaded(symbol, loaded) {
         target_of(targets, id)
@@ -48,7 +50,8 @@ pub fn loaded_targets<P: Platform>(
     loaded: &[bool],
     targets: &[Option<SymbolId>],
 ) -> Result<Vec<Option<SymbolId>>, AllocError>
-    ensures { IfOk result (λ kept. kept.items ≡ targets_of_loaded targets.now loaded.now (symbols_in files.now.groups)) }
+    ensures value { IfOk result (λ kept. kept.items ≡ targets_of_loaded targets.now loaded.now (symbols_in files.now.groups)) }
+    ensures below { IfOk result (λ kept. (n : ℕ) → AreBelow n targets.now → AreBelow n kept.items) }
 {
     let mut kept = Vec::with_capacity(alloc, files.num_symbols())?;
     for (id, symbol) in symbols(files) {

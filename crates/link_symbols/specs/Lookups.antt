@@ -1,5 +1,5 @@
 -- What is looked up for each symbol of a link.
-use Rattle.std.specs.Prelude.{ℕ, ◌≡◌, List, Option, None, slice_get}
+use Rattle.std.specs.Prelude.{ℕ, ◌≡◌, ◌<◌, All, IfSome, List, Option, None, slice_get}
 use Rattle.std.specs.Option.{option_map_or}
 use Rattle.link_input.specs.Symbols.{Symbol}
 use Rattle.link_rules.specs.Names.{Mapping, first_definition}
@@ -15,3 +15,11 @@ pub record IsSelectionOf (symbols : List Symbol) (mapping : Mapping) (targets : 
   pub symbols_are : l.stage.symbols ≡ symbols
   pub names_are : (name : Bytes) → first_definition l.stage name ≡ mapping name
   pub targets_are : l.targets ≡ targets
+
+-- each target is one of the first n symbols
+abbrev pub AreBelow : ℕ → List (Option ℕ) → Type 0
+AreBelow n targets = All (λ target. IfSome target (λ t. t < n)) targets
+
+-- names are mapped to some of the first n symbols
+abbrev pub MapsBelow : ℕ → Mapping → Type 0
+MapsBelow n mapping = (name : Bytes) → IfSome (mapping name) (λ s. s < n)

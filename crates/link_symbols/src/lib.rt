@@ -7,8 +7,6 @@ mod file_symbols;
 mod strengths;
 mod table;
 mod targets;
-#[cfg(test)]
-mod tests;
 mod view;
 
 pub use all_symbols::{AllSymbols, symbols};

@@ -1,10 +1,10 @@
 //! What each symbol points to before rivals are settled.
 
-ghost use Rattle.std.specs.Prelude.{◌≡◌, IfOk};
+ghost use Rattle.std.specs.Prelude.{◌≡◌, ◌≤◌, ◌<◌, All, IfOk, ℕ, length};
 ghost use Rattle.link_files.specs.GroupFiles.{symbols_in};
 ghost use Rattle.link_rules.specs.Rivals.{reference_entry, reference_table};
 ghost use Rattle.link_rules.specs.Selection.{Selection};
-ghost use Rattle.link_symbols.specs.Lookups.{IsSelectionOf};
+ghost use Rattle.link_symbols.specs.Lookups.{AreBelow, IsSelectionOf, MapsBelow};
 
 use crate::all_symbols::symbols;
 use crate::targets::target_of;
@@ -34,7 +34,8 @@ fn reference_entry<M: FirstDefinitions>(
     id: SymbolId,
     symbol: &SymbolView,
 ) -> SymbolId
-    ensures { (l : Selection) → IsSelectionOf l.stage.symbols (M.mapping names.now) targets.now l → result ≡ reference_entry l id symbol.now }
+    ensures value { (l : Selection) → IsSelectionOf l.stage.symbols (M.mapping names.now) targets.now l → result ≡ reference_entry l id symbol.now }
+    ensures below { (n : ℕ) → id < n → MapsBelow n (M.mapping names.now) → AreBelow n targets.now → result < n }
 {
     if symbol.is_forced() {
         names
@@ -55,7 +56,10 @@ pub fn reference_table<P: Platform, M: FirstDefinitions>(
     names: &M,
     targets: &[Option<SymbolId>],
 ) -> Result<Vec<SymbolId>, AllocError>
-    ensures { IfOk result (λ table. (l : Selection) → IsSelectionOf (symbols_in files.now.groups) (M.mapping names.now) targets.now l → table.items ≡ reference_table l) }
+    ensures value { IfOk result (λ table. (l : Selection) → IsSelectionOf (symbols_in files.now.groups) (M.mapping names.now) targets.now l → table.items ≡ reference_table l) }
+    ensures len { IfOk result (λ table. length table.items ≡ length (symbols_in files.now.groups)) }
+    ensures below { IfOk result (λ table. (n : ℕ) → length (symbols_in files.now.groups) ≤ n → MapsBelow n (M.mapping names.now) → AreBelow n targets.now
+        → All (λ entry. entry < n) table.items) }
 {
     let mut table = Vec::with_capacity(alloc, files.num_symbols())?;
     for (id, symbol) in symbols(files) {

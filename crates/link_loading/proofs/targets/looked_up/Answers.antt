@@ -7,8 +7,8 @@ use Rattle.link_db.specs.Seen.{seen}
 use Rattle.link_stage.proofs.Tables.{stands-for}
 use Rattle.link_loading.proofs.targets.looked_up.Goals as goal
 
-pub returns : goal.returns
-returns g c = λ demangle w at.
+pub returns-clause-value : goal.returns-clause-value
+returns-clause-value g c = λ demangle w at.
     let x = c.args.symbol.now in
     let platform = platform_of g.P.Platform in
     let table = name_table_of (seen c.args.db.now) in
