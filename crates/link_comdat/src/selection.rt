@@ -40,6 +40,16 @@ impl Model for Selection {
 }
 
 impl Selection {
+    /// The groups of no object. Takes no memory.
+    pub fn none(alloc: Global) -> Selection
+        ensures { result ≡ record { objects = []; kept = [] } }
+    {
+        Selection {
+            objects: Vec::new(alloc),
+            kept: Seq::new(alloc),
+        }
+    }
+
     /// Of the COMDAT groups of one signature the first one is kept, in the order of the objects and of the groups in each. Groups that
     /// are no COMDAT groups are kept. All are pending.
     ///

@@ -1,0 +1,4 @@
+pub mod Regular
+pub mod Indexed
+pub mod Discarded
+pub mod Signatures

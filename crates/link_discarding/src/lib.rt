@@ -1,0 +1,14 @@
+//! Which sections of the loaded regular objects of a link are left out, since another object's COMDAT group has theirs.
+#![tactic(auto)]
+
+mod candidates;
+mod indices;
+mod laws;
+mod loaded_groups;
+mod placed;
+mod signatures;
+
+pub use candidates::regular_candidates;
+pub use laws::discarded_sections_are_those_of_a_link;
+pub use loaded_groups::LoadedGroups;
+pub use signatures::signature_ids;
