@@ -8,4 +8,5 @@ pub mod Fewer
 pub mod Collected
 pub mod Editing
 pub mod FinalEntries
+pub mod Below
 pub mod Passing

@@ -1,5 +1,5 @@
 -- What is kept of the names that undefined references ask for.
-use Rattle.std.specs.Prelude.{ℕ, ◌≡◌, List, Option, length, map}
+use Rattle.std.specs.Prelude.{ℕ, ◌≡◌, ◌+◌, ◌<◌, ◌≤◌, IfSome, List, Option, length, map}
 use Rattle.std.specs.Option.{option_or}
 use Rattle.link_input.specs.Symbols.{Symbol}
 use Rattle.link_rules.specs.Places.{Bytes}
@@ -38,6 +38,11 @@ first_new_in asked = asked.first_new
 -- the names for which new symbols are made
 abbrev pub marks_in : AskedNames → SectionMarks
 marks_in asked = asked.marks
+
+-- what stands for a name is an id below this number, and so are the new symbols
+pub record AreBelow (count : ℕ) (asked : AskedNames) : Type 0 where
+  pub stands : (name : Bytes) (version : Option Bytes) → IfSome (canonical_in asked name version) (λ s. s < count)
+  pub new : first_new_in asked + length (makers_in asked) ≤ count
 
 -- what is kept is of these references, which stay undefined at the stage
 pub record AreAsked (asked : AskedNames) (w : Stage) (left : List Numbered) : Type 0 where

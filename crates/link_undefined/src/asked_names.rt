@@ -1,6 +1,6 @@
 //! What stands for each name that undefined references ask for.
 
-ghost use Rattle.std.specs.Prelude.{◌≡◌, ◌+◌, ◌*◌, ◌≤◌, ◌^◌, IfOk, List, length};
+ghost use Rattle.std.specs.Prelude.{◌≡◌, ◌+◌, ◌*◌, ◌≤◌, ◌<◌, ◌^◌, All, IfOk, List, length};
 ghost use Rattle.link_files.specs.GroupFiles.{symbols_in};
 
 use crate::asked_name::AskedName;
@@ -33,7 +33,7 @@ impl<'a> AskedNames<'a> {
     ghost use Rattle.link_rules.specs.Undefined.{Numbered, is_boundary_maker};
     ghost use Rattle.link_rules.specs.World.{Stage};
     ghost use Rattle.link_input.specs.Symbols.{Symbol};
-    ghost use Rattle.link_undefined.specs.Asked.{AreAsked, IsStageOf, canonical_in, first_new_in, last_in, makers_in, new_in};
+    ghost use Rattle.link_undefined.specs.Asked.{AreAsked, AreBelow, IsStageOf, canonical_in, first_new_in, last_in, makers_in, new_in};
     ghost use Rattle.link_undefined.specs.Keys.{Asks, name_of, version_of};
     ghost use Rattle.link_undefined.specs.Records.{AreSome, numbered_at};
 
@@ -49,7 +49,10 @@ impl<'a> AskedNames<'a> {
         requires left { AreSome (symbols_in files.now.groups) left.now }
         requires first { first_new ≡ length (symbols_in files.now.groups) }
         requires fits { first_new + 2 * length custom_sections.now ≤ 2 ^ 32 }
-        ensures { IfOk result (λ asked. (w : Stage) → IsStageOf (symbols_in files.now.groups) custom_sections.now w → AreAsked asked w (numbered_at (symbols_in files.now.groups) left.now)) }
+        ensures asked { IfOk result (λ asked. (w : Stage) → IsStageOf (symbols_in files.now.groups) custom_sections.now w → AreAsked asked w (numbered_at (symbols_in files.now.groups) left.now)) }
+        ensures inside { IfOk result (λ asked. All (λ s. s < length (symbols_in files.now.groups)) (makers_in asked)) }
+        ensures below { IfOk result (λ asked. AreBelow (length (symbols_in files.now.groups) + length (makers_in asked)) asked) }
+        ensures few { IfOk result (λ asked. length (makers_in asked) ≤ 2 * length custom_sections.now) }
     {
         let marks = SectionMarks::new(alloc, custom_sections)?;
         let last = last_asked(alloc, files, left)?;

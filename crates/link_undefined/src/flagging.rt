@@ -70,7 +70,8 @@ fn flag_own<P: Platform>(
 )
     requires left { All (λ s. s < length (symbols_in files.now.groups)) left.now }
     requires flags { length (symbols_in files.now.groups) ≤ length (words_of flags.old) }
-    ensures { numbers_in flags.new ≡ edited (with_own output table.now) (numbered_at (symbols_in files.now.groups) left.now) (numbers_in flags.old) }
+    ensures own { numbers_in flags.new ≡ edited (with_own output table.now) (numbered_at (symbols_in files.now.groups) left.now) (numbers_in flags.old) }
+    ensures len { length (words_of flags.new) ≡ length (words_of flags.old) }
 {
     for id in left {
         let reference = Reference::of(files, *id);
@@ -132,8 +133,9 @@ fn pass_visibilities<'a, P: Platform, M: FirstDefinitions>(
     flags: &mut PerSymbolFlags,
 )
     requires { All (λ s. s < length (symbols_in files.now.groups)) left.now }
-    ensures { (r : Resolution) → IsEnd (symbols_in files.now.groups) asked.now (M.mapping names.now) table.now r
+    ensures passed { (r : Resolution) → IsEnd (symbols_in files.now.groups) asked.now (M.mapping names.now) table.now r
         → numbers_in flags.new ≡ all_passed r (numbered_at (symbols_in files.now.groups) left.now) (numbers_in flags.old) }
+    ensures len { length (words_of flags.new) ≡ length (words_of flags.old) }
 {
     for id in left {
         pass_visibility(files, names, asked, table, *id, flags);
@@ -153,9 +155,10 @@ pub fn flag_references<'a, P: Platform, M: FirstDefinitions>(
 )
     requires left { AreSome (symbols_in files.now.groups) left.now }
     requires flags { length (symbols_in files.now.groups) ≤ length (words_of flags.old) }
-    ensures { (l : Selection) → (before more : List ℕ) → IsEndOf (symbols_in files.now.groups) left.now asked.now (M.mapping names.now) table.now output l
+    ensures flags { (l : Selection) → (before more : List ℕ) → IsEndOf (symbols_in files.now.groups) left.now asked.now (M.mapping names.now) table.now output l
         → numbers_in flags.old ≡ before ++ more → length before ≡ length (symbols_in files.now.groups)
         → numbers_in flags.new ≡ flagged (resolution_from l (left_undefined l)) before more }
+    ensures len { length (words_of flags.new) ≡ length (words_of flags.old) }
 {
     flag_own(files, left, table, output, flags);
     pass_visibilities(files, left, names, asked, table, flags);
@@ -190,6 +193,7 @@ pub fn flag_undefined<'a, P: Platform, M: FirstDefinitions>(
     ensures ok { OnOk result ((l : Selection) → IsEndOf (symbols_in files.now.groups) left.now asked.now (M.mapping names.now) table.now output l
         → length (words_of flags.old) ≡ length (symbols_in files.now.groups)
         → numbers_in flags.new ≡ flagged (resolution_from l (left_undefined l)) (numbers_in flags.old) (new_words (resolution_from l (left_undefined l)))) }
+    ensures len { OnOk result (length (words_of flags.new) ≡ length (words_of flags.old) + length (makers_in asked.now)) }
     ensures err { OnErr result ((more : List ℕ) × (numbers_in flags.new ≡ numbers_in flags.old ++ more)) }
 {
     push_new(asked, flags)?;

@@ -11,8 +11,6 @@ mod name_ids;
 mod pointing;
 mod reference;
 mod references;
-#[cfg(test)]
-mod tests;
 
 pub use asked_name::AskedName;
 pub use asked_names::AskedNames;

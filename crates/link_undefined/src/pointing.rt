@@ -1,13 +1,13 @@
 //! What each symbol points to, once undefined references are done.
 
-ghost use Rattle.std.specs.Prelude.{◌≡◌, ◌&&◌, ◌++◌, ◌≤◌, ◌<◌, ℕ, All, List, OnErr, OnOk, is_some, length};
+ghost use Rattle.std.specs.Prelude.{◌≡◌, ◌&&◌, ◌+◌, ◌++◌, ◌≤◌, ◌<◌, ℕ, All, List, OnErr, OnOk, is_some, length};
 ghost use Rattle.link_files.specs.GroupFiles.{symbols_in};
 ghost use Rattle.link_input.specs.Symbols.{Symbol};
 ghost use Rattle.link_rules.specs.Places.{each_from, is_number};
 ghost use Rattle.link_rules.specs.Rivals.{versioned_table};
 ghost use Rattle.link_rules.specs.Selection.{Selection};
 ghost use Rattle.link_rules.specs.Undefined.{final_entry, final_table_over, left_undefined};
-ghost use Rattle.link_undefined.specs.Asked.{last_in};
+ghost use Rattle.link_undefined.specs.Asked.{AreBelow, last_in, makers_in};
 ghost use Rattle.link_undefined.specs.Edited.{edited};
 ghost use Rattle.link_undefined.specs.Keys.{Asks, name_of, version_of};
 ghost use Rattle.link_undefined.specs.Pointed.{AreLeftOf, pointed};
@@ -65,8 +65,10 @@ pub fn point_references<'a, P: Platform>(
 )
     requires left { AreSome (symbols_in files.now.groups) left.now }
     requires table { length (symbols_in files.now.groups) ≤ length table.old }
-    ensures { (l : Selection) → (more : List ℕ) → AreLeftOf (symbols_in files.now.groups) left.now asked.now l → table.old ≡ versioned_table l ++ more
+    ensures entries { (l : Selection) → (more : List ℕ) → AreLeftOf (symbols_in files.now.groups) left.now asked.now l → table.old ≡ versioned_table l ++ more
         → table.new ≡ each_from (final_entry l (left_undefined l) (versioned_table l)) 0 l.stage.symbols ++ more }
+    ensures below { (count : ℕ) → AreBelow count asked.now → length (symbols_in files.now.groups) ≤ count
+        → All (λ t. t < count) table.old → All (λ t. t < count) table.new }
 {
     point_all(files, left, asked, table);
 }
@@ -84,6 +86,9 @@ pub fn point_undefined<'a, P: Platform>(
     requires table { length (symbols_in files.now.groups) ≤ length table.old.items }
     ensures ok { OnOk result ((l : Selection) → AreLeftOf (symbols_in files.now.groups) left.now asked.now l → table.old.items ≡ versioned_table l
         → table.new.items ≡ final_table_over l (left_undefined l)) }
+    ensures len { OnOk result (length table.new.items ≡ length table.old.items + length (makers_in asked.now)) }
+    ensures below { OnOk result ((count : ℕ) → AreBelow count asked.now → length (symbols_in files.now.groups) ≤ count
+        → All (λ t. t < count) table.old.items → All (λ t. t < count) table.new.items) }
     ensures err { OnErr result (table.new.items ≡ table.old.items) }
 {
     let mut new = asked.new_ids(alloc)?;

@@ -6,14 +6,14 @@ use Rattle.link_undefined.specs.Records.{numbered_at}
 use Rattle.link_undefined.proofs.Passing.{end-of, flagged-end}
 use Rattle.link_undefined.proofs.flagging.flag_references.Goals as goal
 
-pub returns : goal.returns
-returns g c = λ l. λ before. λ more. λ end. λ is. λ len.
+pub returns-clause-flags : goal.returns-clause-flags
+returns-clause-flags g c = λ l. λ before. λ more. λ end. λ is. λ len.
     let symbols = symbols_in c.args.files.now.groups in
     let left = c.args.left.now in
     let asked = c.args.asked.now in
     let mapping = g.M.FirstDefinitions.mapping c.args.names.now in
     let table = c.args.table.now in
     let r = resolution_from l (left_undefined l) in
-    c.pass_visibilities.ensures r (end-of symbols left asked mapping table c.args.output l end)
-    ∙ (ap (λ (flags : List ℕ). all_passed r (numbered_at symbols left) flags) c.flag_own.ensures
+    c.pass_visibilities.ensures.passed r (end-of symbols left asked mapping table c.args.output l end)
+    ∙ (ap (λ (flags : List ℕ). all_passed r (numbered_at symbols left) flags) c.flag_own.ensures.own
     ∙ flagged-end symbols left asked mapping table c.args.output l before more (numbers_in c.args.flags.now) end is len)

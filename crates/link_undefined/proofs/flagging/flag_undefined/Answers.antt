@@ -19,5 +19,10 @@ returns-clause-ok g c = λ l. λ end. λ len.
     let r = resolution_from l (left_undefined l) in
     let new = map (λ (k : ℕ). flag.non_interposable) (makers_in c.args.asked.now) in
     let old = numbers_in c.args.flags.now in
-    c.flag_references.ensures l old new end c.in_ok-push_new.ensures.ok (length-map (words_of c.args.flags.now) (λ (w : RawFlags). w.0) ∙ len)
+    c.flag_references.ensures.flags l old new end c.in_ok-push_new.ensures.ok (length-map (words_of c.args.flags.now) (λ (w : RawFlags). w.0) ∙ len)
     ∙ ap (flagged r old) (ap (map (λ (k : ℕ). flag.non_interposable)) end.left_are.asked_are.makers ∙ words-of-makers flag.non_interposable (boundary_makers l.stage (left_undefined l)))
+
+pub returns-clause-len : goal.returns-clause-len
+returns-clause-len g c =
+    let new = map (λ (k : ℕ). flag.non_interposable) (makers_in c.args.asked.now) in
+    omega (arith, c.flag_references.ensures.len, ap length c.in_ok-push_new.ensures.ok, length-append (numbers_in c.args.flags.now) new, length-map (makers_in c.args.asked.now) (λ (k : ℕ). flag.non_interposable), length-map (words_of c.args.flags.now) (λ (w : RawFlags). w.0), length-map (words_of c.push_new.new.flags) (λ (w : RawFlags). w.0))
