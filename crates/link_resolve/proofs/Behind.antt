@@ -1,6 +1,6 @@
 -- What a database lists behind a symbol is what stands behind it in its list of rivals.
 use Rattle.std.proofs.Common.{◌≡◌, ◌∙◌, ◌++◌, ℕ, zero, suc, Bool, true, false, List, [], ◌∷◌, Contains, Option, Some, None, refl, sym, ap, map, inl, inr, subst, append-nil, length, if◌then◌else◌}
-use Rattle.std.specs.Prelude.{option_and_then, slice_get}
+use Rattle.std.specs.Prelude.{slice_get}
 use Rattle.std.specs.Option.{option_map_or}
 use Rattle.std.proofs.lemmas.Bool.Decides.{eqb_tells}
 use Rattle.link_input.specs.declared.options.Options.{Options}
@@ -13,8 +13,6 @@ use Rattle.link_rules.specs.World.{Stage, nothing_earlier}
 use Rattle.link_rivals.proofs.NameLists.{plain-lists, versioned-lists, versioned_in}
 use Rattle.link_rivals.specs.Lists.{AreLists}
 use Rattle.link_files.specs.GroupFiles.{symbols_in}
-use Rattle.link_files.specs.HeldFiles.{names_in}
-use Rattle.link_mapping.specs.Keys.{plain_key, versioned_key}
 use Rattle.link_mapping.specs.Mapped.{later_in, later_versioned_in, later_with}
 use Rattle.link_db.specs.Database.{Database}
 use Rattle.link_resolve.specs.Known.{IsListed}

@@ -1,2 +1,4 @@
 pub mod Known
+pub mod Settled
 pub mod Lists
+pub mod Resolving

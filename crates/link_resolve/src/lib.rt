@@ -1,12 +1,21 @@
-//! What each name and each reference of a link means, once it is known which objects are loaded.
+//! Which objects of a link are loaded, and what each name and each reference then means.
 #![tactic(auto)]
 
+mod canonical;
+mod definitions;
 mod duplicates;
+mod laws;
 mod lists;
 mod resolved;
+mod resolver;
 mod rivals;
-#[cfg(test)]
-mod tests;
+mod signatures;
+mod undefined;
+mod versions;
 
+pub use definitions::{Definitions, names_are_mapped_to_symbols};
+pub use laws::the_rust_form_narrows;
 pub use resolved::{Resolved, resolved_symbol_strength};
+pub use resolver::Resolver;
 pub use rivals::resolve_alternative_symbol_definitions;
+pub use versions::symbol_versions;

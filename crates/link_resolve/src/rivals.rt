@@ -19,6 +19,7 @@ ghost use Rattle.link_rules.specs.World.{Stage};
 ghost use Rattle.link_db.specs.Database.{HasTable, symbol_names};
 ghost use Rattle.link_db.specs.Seen.{seen};
 ghost use Rattle.link_resolve.specs.Known.{IsListed, IsSelection};
+ghost use Rattle.link_resolve.specs.Settled.{IsSettled};
 
 use crate::duplicates::refuse_duplicates;
 use crate::lists::{PlainLists, VersionedLists};
@@ -189,6 +190,7 @@ fn settle_rivals<P: Platform>(
       mapping = record (seen db.old).mapping { lists = λ key. take 1 ((seen db.old).mapping.lists key) };
     }) }
     ensures whole { OnOk result (HasTable (seen db.new)) }
+    ensures words { length (words_of flags.new) ≡ length (words_of flags.old) }
     ensures err { OnErr result (words_of flags.new ≡ words_of flags.old) }
 {
     let _numbers = db.num_symbols();
@@ -231,7 +233,10 @@ pub fn resolve_alternative_symbol_definitions<P: Platform>(
       table = (seen left).table;
       mapping = record (seen db).mapping { lists = λ key. take 1 ((seen db).mapping.lists key) };
     }) }
+    ensures settled { IfOk result (λ left. (demangle : Bytes → Bytes) (l : Selection) → IsSelection (platform_of P.Platform) demangle (seen db) resolved.now l
+        → IsSettled (seen left) resolved.now l) }
     ensures whole { IfOk result (λ left. HasTable (seen left)) }
+    ensures words { length (words_of flags.new) ≡ length (words_of flags.old) }
     ensures err { OnErr result (words_of flags.new ≡ words_of flags.old) }
 {
     match settle_rivals(alloc, &mut db, flags, resolved) {

@@ -7,7 +7,6 @@ use Rattle.link_loader.specs.Holds.{platform_of}
 use Rattle.link_rivals.proofs.NarrowPass.{narrowed-twice}
 use Rattle.link_rivals.specs.Lists.{AreLists}
 use Rattle.link_rivals.specs.Narrowed.{AreSeen, narrowed}
-use Rattle.link_rules.specs.World.{Stage}
 use Rattle.link_db.specs.Seen.{seen}
 use Rattle.link_resolve.proofs.Behind.{plain-are, versioned-are}
 use Rattle.link_resolve.specs.Lists.{plain_rivals, versioned_rivals}

@@ -1,4 +1,4 @@
-use Rattle.std.proofs.Common.{◌∙◌, List, ap, length, map, subst, sym}
+use Rattle.std.proofs.Common.{◌∙◌, List, ap, map, subst, sym}
 use Rattle.link_files.specs.GroupFiles.{symbols_in}
 use Rattle.link_input.specs.Symbols.{Symbol}
 use Rattle.link_loader.specs.Holds.{platform_of}

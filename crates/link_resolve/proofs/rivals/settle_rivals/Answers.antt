@@ -1,17 +1,9 @@
-use Rattle.std.proofs.Common.{◌≡◌, ◌∙◌, List, Option, None, ap, arith, length, map, subst, sym}
-use Rattle.std.proofs.lemmas.List.{length-map}
+use Rattle.std.proofs.Common.{◌∙◌, ap, map, subst, sym}
 use Rattle.link_files.specs.GroupFiles.{symbols_in}
 use Rattle.link_files.specs.Inputs.{objects_in}
-use Rattle.link_flags.specs.FlagWords.{numbers_of, words_of}
-use Rattle.link_input.specs.ObjectFile.{ObjectFile}
-use Rattle.link_input.specs.Symbols.{Symbol, is_shared}
 use Rattle.link_loader.specs.Causes.{TellsCause}
-use Rattle.link_loader.specs.Holds.{platform_of}
 use Rattle.link_rivals.specs.Settled.{clash_line}
-use Rattle.link_rules.specs.Places.{Bytes}
 use Rattle.link_rules.specs.Refusals.{duplicate_lines, unless_none}
-use Rattle.link_rules.specs.Selection.{Selection}
-use Rattle.link_rules.specs.declared.refusal.LinkError.{LinkError}
 use Rattle.link_db.specs.Database.{Database}
 use Rattle.link_db.specs.Seen.{seen}
 use Rattle.link_resolve.proofs.Telling.{lines-are, rest-is}

@@ -1,0 +1,138 @@
+-- What is known once the objects of a batch are loaded.
+use Rattle.std.proofs.Common.{◌≡◌, ◌∙◌, ◌++◌, ◌≤◌, ℕ, Bool, List, [], ◌∷◌, Option, Some, None, ap, append-nil, arith, length, map, refl, subst, sym, if◌then◌else◌}
+use Rattle.std.proofs.lemmas.List.{length-map}
+use Rattle.std.specs.Prelude.{option_to_list}
+use Rattle.link_comdat.specs.Selected.{selected}
+use Rattle.link_discarding.proofs.Same.{same-strengths}
+use Rattle.link_discarding.specs.Discarded.{discarded_in}
+use Rattle.link_discarding.specs.Indexed.{AreGroupsOf, IndexedGroups, index_at, index_of}
+use Rattle.link_discarding.specs.Regular.{regular_among}
+use Rattle.link_flags.specs.declared.strength.SymbolStrength.{SymbolStrength}
+use Rattle.link_input.specs.ObjectFile.{ObjectFile}
+use Rattle.link_input.specs.Symbols.{Symbol, is_shared}
+use Rattle.link_marking.proofs.References.{flags-marked, kept-all}
+use Rattle.link_marking.specs.Marks.{marks_by, marks_on_names, with_marks}
+use Rattle.link_marking.specs.Targets.{targets_of_loaded}
+use Rattle.link_loading.specs.Targets.{all_targets}
+use Rattle.link_rules.proofs.WorldOnce.{one-loaded}
+use Rattle.link_rules.specs.Comdat.{discarded_groups}
+use Rattle.link_rules.specs.Loading.{IsLoaded, entry_name, redirect_targets}
+use Rattle.link_rules.specs.Marking.{flags_before, marked_flags}
+use Rattle.link_rules.specs.Names.{Mapping, first_definition}
+use Rattle.link_rules.specs.Places.{Bytes, each_from, is_empty}
+use Rattle.link_rules.specs.Selection.{Selection, loaded_target, selection_of, surviving_origin, surviving_strengths}
+use Rattle.link_rules.specs.World.{Stage}
+use Rattle.link_files.specs.GroupFiles.{symbols_in}
+use Rattle.link_files.specs.Inputs.{objects_in, scripts_in}
+use Rattle.link_loader.specs.Holds.{AreRulesOf}
+use Rattle.link_loader.specs.ReadTexts.{ReadTexts}
+use Rattle.link_mapping.specs.Mapped.{AreListed, Mapped, mapping_of}
+use Rattle.link_rules.specs.Refusals.{empty_refusal}
+use Rattle.link_rules.specs.declared.refusal.LinkError.TheVariants.{NoInputs}
+use Rattle.link_rules.specs.Rules.{PlatformRules}
+use Rattle.link_stage.specs.AtStage.{IsAtStage}
+use Rattle.link_symbols.specs.Lookups.{IsSelectionOf}
+use Rattle.link_db.specs.Database.{Database, symbol_names}
+use Rattle.link_resolve.specs.Known.{IsSelection, Known}
+use Rattle.link_resolve.specs.Resolving.{IsNextStage, Resolving, known_of}
+
+-- what is kept of the targets of all references
+pub targets-are : (w : Stage) (all given : List (Option ℕ)) (loaded marks : List Bool) (symbols : List Symbol) (kept : List (Option ℕ))
+    → kept ≡ targets_of_loaded given marks symbols → given ≡ all → marks ≡ loaded → symbols ≡ w.symbols → all ≡ all_targets w → kept ≡ each_from (loaded_target w loaded) 0 w.symbols
+targets-are w all given loaded marks symbols kept is given_is marks_is symbols_are all_are =
+    is ∙ (ap (λ (ts : List (Option ℕ)). targets_of_loaded ts marks symbols) (given_is ∙ all_are)
+    ∙ (ap (λ (ms : List Bool). targets_of_loaded (all_targets w) ms symbols) marks_is
+    ∙ (ap (λ (xs : List Symbol). targets_of_loaded (all_targets w) loaded xs) symbols_are ∙ kept-all w loaded)))
+
+-- all of this
+abbrev known_with : List Bool → List (Option ℕ) → List SymbolStrength → Known
+known_with marks targets strengths = record { marks = marks; targets = targets; strengths = strengths }
+
+-- what was computed of these loaded objects is known of a selection of as many
+pub known-is : (w : Stage) (marks loaded : List Bool) (targets : List (Option ℕ)) (strengths : List SymbolStrength) → IsLoaded w loaded → IsLoaded w marks
+    → targets ≡ each_from (loaded_target w loaded) 0 w.symbols → strengths ≡ surviving_strengths w loaded (discarded_groups w loaded)
+    → known_with loaded targets strengths ≡ known_of (selection_of w marks)
+known-is w marks loaded targets strengths own asked targets_are strengths_are =
+    ap (λ (ts : List (Option ℕ)). known_with loaded ts strengths) targets_are
+    ∙ (ap (λ (ss : List SymbolStrength). known_with loaded (each_from (loaded_target w loaded) 0 w.symbols) ss) strengths_are
+    ∙ ap (λ (ms : List Bool). known_of (selection_of w ms)) (one-loaded w loaded marks own asked))
+
+-- what was selected of the groups of these loaded objects is that of as many
+pub groups-are : (w : Stage) (marks loaded given : List Bool) (objects : List ObjectFile) (g : IndexedGroups) → IsLoaded w loaded → IsLoaded w marks → given ≡ loaded → objects ≡ w.objects
+    → g.groups ≡ selected (regular_among given objects) → ((f : ℕ) → index_at g.indices f ≡ index_of (regular_among given objects) f) → AreGroupsOf marks w.objects g
+groups-are w marks loaded given objects g own asked given_is objects_are groups indices =
+    let same : regular_among given objects ≡ regular_among marks w.objects =
+    ap (λ (ms : List Bool). regular_among ms objects) (given_is ∙ one-loaded w loaded marks own asked) ∙ ap (λ (os : List ObjectFile). regular_among marks os) objects_are in
+    record {
+      groups = groups ∙ ap (λ (os : List (ℕ × ObjectFile)). selected os) same;
+      indices = λ f. indices f ∙ ap (λ (os : List (ℕ × ObjectFile)). index_of os f) same;
+    }
+
+-- how strongly symbols bind by what was selected
+pub strengths-are : (w : Stage) (loaded given : List Bool) (symbols : List Symbol) (g : IndexedGroups) (strengths : List SymbolStrength) → AreGroupsOf loaded w.objects g → given ≡ loaded → symbols ≡ w.symbols
+    → strengths ≡ map (λ x. surviving_origin given (discarded_in g) x.origin) symbols → strengths ≡ surviving_strengths w loaded (discarded_groups w loaded)
+strengths-are w loaded given symbols g strengths are given_is symbols_are is =
+    is ∙ (ap (λ (ms : List Bool). map (λ (x : Symbol). surviving_origin ms (discarded_in g) x.origin) symbols) given_is
+    ∙ (ap (λ (xs : List Symbol). map (λ (x : Symbol). surviving_origin loaded (discarded_in g) x.origin) xs) symbols_are ∙ same-strengths w loaded g are))
+
+-- the flags that were before, with the marks of names and then of references
+pub flags-are : (l : Selection) (dynamic : List Bool) (targets : List (Option ℕ)) (symbols : List Symbol) (mapping : Mapping) (names : List Bytes) (before named after : List ℕ)
+    → dynamic ≡ map (λ x. is_shared x.origin) l.stage.symbols → targets ≡ l.targets → symbols ≡ l.stage.symbols → mapping ≡ first_definition l.stage
+    → names ≡ option_to_list (entry_name l.stage) ++ redirect_targets l.stage → before ≡ each_from (flags_before l.stage) 0 l.stage.symbols
+    → named ≡ with_marks (marks_on_names mapping names) before → after ≡ with_marks (marks_by dynamic targets symbols) named → after ≡ marked_flags l
+flags-are l dynamic targets symbols mapping names before named after dynamic_is targets_are symbols_are mapping_is names_are before_is named_is is =
+    let own : named ≡ with_marks (marks_on_names (first_definition l.stage) (option_to_list (entry_name l.stage) ++ redirect_targets l.stage)) (each_from (flags_before l.stage) 0 l.stage.symbols) =
+    named_is ∙ (ap (λ (m : Mapping). with_marks (marks_on_names m names) before) mapping_is
+    ∙ (ap (λ (ns : List Bytes). with_marks (marks_on_names (first_definition l.stage) ns) before) names_are
+    ∙ ap (λ (fs : List ℕ). with_marks (marks_on_names (first_definition l.stage) (option_to_list (entry_name l.stage) ++ redirect_targets l.stage)) fs) before_is)) in
+    is ∙ (ap (λ (ds : List Bool). with_marks (marks_by ds targets symbols) named) dynamic_is
+    ∙ (ap (λ (ts : List (Option ℕ)). with_marks (marks_by (map (λ (x : Symbol). is_shared x.origin) l.stage.symbols) ts symbols) named) targets_are
+    ∙ (ap (λ (xs : List Symbol). with_marks (marks_by (map (λ (x : Symbol). is_shared x.origin) l.stage.symbols) l.targets xs) named) symbols_are
+    ∙ (ap (λ (fs : List ℕ). with_marks (marks_by (map (λ (x : Symbol). is_shared x.origin) l.stage.symbols) l.targets l.stage.symbols) fs) own ∙ flags-marked l))))
+
+-- without symbols of the linker the symbols are those of the files
+pub all-named : {P : Type 0} (db : Database P) → db.mapping.files.added ≡ [] → length (symbol_names db) ≡ length (symbols_in db.mapping.files.groups)
+all-named db none =
+    ap (λ (added : List Bytes). length (map (λ (x : Symbol). x.name) (symbols_in db.mapping.files.groups) ++ added)) none
+    ∙ (ap length (append-nil (map (λ (x : Symbol). x.name) (symbols_in db.mapping.files.groups))) ∙ length-map (symbols_in db.mapping.files.groups) (λ (x : Symbol). x.name))
+
+-- a selection of which a database tells, as a pass over its symbols looks it up
+pub selection-of : {P : Type 0} (platform : PlatformRules) (demangle : Bytes → Bytes) (db : Database P) (known : Known) (l : Selection) (symbols : List Symbol) (targets : List (Option ℕ))
+    → IsSelection platform demangle db known l → symbols ≡ symbols_in db.mapping.files.groups → targets ≡ known.targets → IsSelectionOf symbols (mapping_of db.mapping) targets l
+selection-of platform demangle db known l symbols targets is symbols_are targets_are = record {
+  symbols_are = is.stage.symbols ∙ sym symbols_are;
+  names_are = λ name. sym (is.stage.names name);
+  targets_are = is.targets ∙ sym targets_are;
+}
+
+-- where there is an object, no object is no cause
+pub not-empty : (w : Stage) (count : ℕ) → count ≡ length w.objects → 1 ≤ count → empty_refusal w ≡ None
+not-empty w count is some = by w.objects (sym is)
+  where
+    by : (objects : List ObjectFile) → length objects ≡ count → (if is_empty objects then Some NoInputs else None) ≡ None
+    by [] none = absurd (omega (arith, none, some))
+    by (o ∷ os) more = refl
+
+-- what is known of a selection, over a database that differs in its table alone
+pub is-selection : {P : Type 0} (platform : PlatformRules) (demangle : Bytes → Bytes) (old new : Database P) (w : Stage) (marks : List Bool) (known : Known)
+    → new.mapping ≡ old.mapping → new.options ≡ old.options → new.rules ≡ old.rules → IsAtStage platform demangle old w → known ≡ known_of (selection_of w marks)
+    → IsSelection platform demangle new known (selection_of w marks)
+is-selection {P} platform demangle old new w marks known mapping options rules at is = record {
+  stage = record {
+    objects = at.objects ∙ ap (λ (m : Mapped P). objects_in m.files.groups) (sym mapping);
+    scripts = at.scripts ∙ ap (λ (m : Mapped P). scripts_in m.files.groups) (sym mapping);
+    symbols = at.symbols ∙ ap (λ (m : Mapped P). symbols_in m.files.groups) (sym mapping);
+    added = ap (λ (m : Mapped P). m.files.added) mapping ∙ at.added;
+    options = at.options ∙ sym options;
+    rules = subst (λ (r : ReadTexts). AreRulesOf platform demangle r w.rules) (sym rules) at.rules;
+    lists = subst (λ (m : Mapped P). AreListed w.symbols m) (sym mapping) at.lists;
+    names = λ name. ap (λ (m : Mapped P). mapping_of m name) mapping ∙ at.names name;
+  };
+  marks = sym (ap (λ (k : Known). k.marks) is);
+  targets = sym (ap (λ (k : Known). k.targets) is);
+  strengths = sym (ap (λ (k : Known). k.strengths) is);
+}
+
+-- a stage before which a resolver knew something, by what its parts know
+pub opened : {P : Type 0} {platform : PlatformRules} {demangle : Bytes → Bytes} {db : Database P} {w : Stage} {parts now : Resolving} → parts ≡ now → IsNextStage platform demangle db now.known w → IsNextStage platform demangle db parts.known w
+opened {platform = platform} {demangle = demangle} {db = db} {w = w} same at = subst (λ (r : Resolving). IsNextStage platform demangle db r.known w) (sym same) at
