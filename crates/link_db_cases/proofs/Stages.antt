@@ -96,25 +96,3 @@ with_symbol {P} platform old new name (Ok x) came same held = record {
   texts = same-texts platform Symbols old new (ap (λ (d : Database P). d.options) came) (ap (λ (d : Database P). d.rules) came) held;
 }
 with_symbol {P} platform old new name (Err e) came same held = subst (λ (d : Database P). IsAt platform Symbols d) (sym same) held
-
--- as many values as there are elements
-length-each_from : {X Y : Type 0} (f : ℕ → X → Y) (i : ℕ) (xs : List X) → length (each_from f i xs) ≡ length xs
-length-each_from f i [] = refl
-length-each_from f i (x ∷ xs) = ap (λ n. suc n) (length-each_from f (i + 1) xs)
-
--- as many flags by a script as there were
-length-by_script : {P : Type 0} (db : Database P) (names : Option (List Bytes)) (flags : List ℕ) → length (flags_by_script db names flags) ≡ length flags
-length-by_script db None flags = refl
-length-by_script db (Some names) flags = length-each_from (rust_flags (freed_symbols db names)) 0 flags
-
--- a script of the Rust form leaves a word for each symbol
-pub freed-length : {P : Type 0} (platform : PlatformRules) (stage : Stage) (db : Database P) (before after : List RawFlags)
-    → ((demangle : Bytes → Bytes) (rules : Rules) → AreRulesOf platform demangle db.rules rules → numbers_of after ≡ flags_by_script db rules.rust_names (numbers_of before))
-    → IsAt platform stage db → length after ≡ length before
-freed-length platform stage db before after freed held =
-    let texts = held.texts.0 in
-    let scripts = held.texts.1.0 in
-    let rules = rules_of platform (λ name. name) db.options texts scripts in
-    let e = freed (λ name. name) rules (record { options = db.options; texts = texts; scripts = scripts; holds = held.texts.1.1; same = refl }) in
-    sym (length-map after (λ (w : RawFlags). w.0))
-    ∙ (ap (λ (ns : List ℕ). length ns) e ∙ (length-by_script db rules.rust_names (numbers_of before) ∙ length-map before (λ (w : RawFlags). w.0)))

@@ -10,6 +10,7 @@ mod definitions;
 mod fault;
 mod gather;
 mod link;
+mod linked;
 mod names;
 mod naming;
 mod setup;
@@ -28,7 +29,7 @@ use std::rt::{Clock, Env};
 use std::thread::Threads;
 
 /// At most so many bytes of cases are read.
-const MAX_BYTES: usize = 1 << 20;
+const MAX_BYTES: usize = 1 << 26;
 
 /// The status where something can't be done.
 const FAULT_STATUS: u8 = 2;
