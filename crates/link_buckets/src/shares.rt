@@ -13,6 +13,7 @@ const MOST_RUNS: usize = 16;
 const LEAST_SHARED: usize = 1 << 13;
 
 /// How many definitions parts have.
+/// The number is left open: it only tells how many threads start and how much room is made.
 pub(crate) fn definitions_of(parts: &[&[Definition]]) -> usize {
     let mut all = 0usize;
     for definitions in parts {
@@ -22,6 +23,7 @@ pub(crate) fn definitions_of(parts: &[&[Definition]]) -> usize {
 }
 
 /// How many threads take so many definitions: one for each processor.
+/// The number is left open: for each number of threads the answer is the same.
 pub(crate) fn threads_for<R: Threads>(rt: &R, definitions: usize) -> usize {
     if definitions < LEAST_SHARED {
         return 1;
@@ -34,6 +36,7 @@ pub(crate) fn threads_for<R: Threads>(rt: &R, definitions: usize) -> usize {
 
 /// For how many names a bucket makes room where so many definitions come to so many buckets: its share and a little more, since names
 /// fall unevenly.
+/// The number is left open: room changes nothing that a contract sees.
 pub(crate) fn room_for(definitions: usize, buckets: usize) -> usize
     requires { 0 < buckets }
 {

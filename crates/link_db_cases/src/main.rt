@@ -1,5 +1,6 @@
-//! The database by example: standard input is a list of cases, each of calls on a `SymbolDb`, and standard output is what they
-//! answer. So a case costs no proof, and two compilers run it. README.md says how a case is written. With words it times a batch.
+//! The database and the resolver by example: standard input is a list of cases, each of calls on a `SymbolDb` or a whole link, and
+//! standard output is what they answer. So a case costs no proof, and two compilers run it. README.md says how a case is written.
+//! With words it times a batch.
 #![tactic(auto)]
 
 mod ask;
