@@ -1,9 +1,9 @@
-//! Objects whose groups compete.
+//! Objects with their places.
 
 use link_input::{ParsedInputObject, Platform};
 use std::marker::Model;
 
-/// A loaded regular object with its place among all objects. A contract sees the pair of both.
+/// An object with its place among all objects of a link. The groups of loaded regular ones compete. A contract sees the pair of both.
 #[derive(Drop)]
 pub struct Candidate<'a, P: Platform> {
     pub place: usize,

@@ -1,7 +1,6 @@
 //! Lines that ask something of a link, and what is answered.
 
-ghost use Rattle.std.specs.Prelude.{◌≡◌, ◌<◌, IfOk, length};
-ghost use Rattle.link_flags.specs.FlagWords.{words_of};
+ghost use Rattle.std.specs.Prelude.{◌<◌, IfOk, length};
 ghost use Rattle.link_db.specs.Database.{symbol_names};
 ghost use Rattle.link_db.specs.Seen.{seen};
 
@@ -10,7 +9,7 @@ use crate::link::Link;
 use crate::naming::OneName;
 use crate::words::{name_and_version, number_of};
 use link_db::{SymbolDb, SymbolKey};
-use link_flags::{FlagsForSymbol, PerSymbolFlags};
+use link_flags::FlagsForSymbol;
 use link_ids::SymbolId;
 use link_input::Platform;
 use link_names::{Name, NameView};
@@ -128,20 +127,13 @@ fn write_meaning<P: Platform>(
     write!(text, "{meant} canonical {canonical} ({flags})")
 }
 
-/// Writes the flags of each symbol.
-/// What is written is left to the cases, whose expected text stands beside them.
-pub fn write_flags<P: Platform>(
-    text: &mut String,
-    db: &SymbolDb<P>,
-    flags: &PerSymbolFlags,
-) -> Result<(), AllocError>
-    requires { length (words_of flags.now) ≡ length (symbol_names (seen db.now)) }
-{
-    let symbols = db.num_symbols();
+/// The flags of each symbol.
+fn write_flags<P: Platform>(text: &mut String, link: &Link<P>) -> Result<(), AllocError> {
+    let symbols = link.db.num_symbols();
     write!(text, "{symbols}:")?;
     for number in 0..symbols {
-        let of_symbol = flags.flags_for_symbol(SymbolId::from_usize(number));
-        write!(text, " {number}({of_symbol})")?;
+        let flags = link.flags.flags_for_symbol(SymbolId::from_usize(number));
+        write!(text, " {number}({flags})")?;
     }
     Ok(())
 }
@@ -242,7 +234,7 @@ fn answer_of_all<P: Platform>(
     word: &[u8],
 ) -> Result<bool, AllocError> {
     match word {
-        b"flags" => write_flags(text, &link.db, &link.flags)?,
+        b"flags" => write_flags(text, link)?,
         b"counts" => write_counts(text, &link.db)?,
         b"held" => write_held(text, &link.db)?,
         b"groups" => write_groups(text, &link.db)?,

@@ -8,7 +8,6 @@ use crate::calls::{change, write_outcome};
 use crate::fault::Fault;
 use crate::gather::Gathered;
 use crate::link::Link;
-use crate::linked::do_whole;
 use crate::setup::Setup;
 use crate::words::lines_of;
 use link_input::{ElfLike, MachLike, Platform};
@@ -134,33 +133,6 @@ fn do_case<R: Threads + Sync, P: Platform + Sync>(
     }
 }
 
-/// Links the files that lines tell, as one batch, and writes what the link says.
-fn do_link_of<R: Threads + Sync, P: Platform + Sync>(
-    rt: &R,
-    alloc: Global,
-    text: &mut String,
-    setup: Setup,
-    lines: &[Vec<&[u8]>],
-) -> Result<(), Fault> {
-    if !setup.is_within_limits() {
-        return Err(Fault::Limits);
-    }
-    let files = files_of(alloc, P::HAS_NULL_SYMBOL_ENTRY, lines)?;
-    let inputs = files.into_inputs(alloc)?;
-    do_whole::<R, P>(rt, alloc, text, setup, inputs)
-}
-
-/// The files that lines tell.
-fn files_of(alloc: Global, has_null: bool, lines: &[Vec<&[u8]>]) -> Result<Gathered, Fault> {
-    let mut files = Gathered::new(alloc);
-    for words in lines {
-        if !files.take(alloc, has_null, words.as_slice())? {
-            return Err(Fault::Line);
-        }
-    }
-    Ok(files)
-}
-
 /// Whether a line is `new`.
 fn is_new(words: &Vec<&[u8]>) -> bool {
     match words.as_slice() {
@@ -182,19 +154,15 @@ fn do_case_of<R: Threads + Sync>(
     let Some(at) = rest.iter().position(is_new) else {
         return Err(Fault::Case);
     };
-    let [kind, name, platform] = first.as_slice() else {
+    let [b"case", name, platform] = first.as_slice() else {
         return Err(Fault::Case);
     };
-    let title = NameView::new(kind);
     let name = NameView::new(name);
-    write!(text, "{title} {name}\n")?;
+    write!(text, "case {name}\n")?;
     let setup = setup_of(alloc, &rest[..at])?;
-    let lines = &rest[at + 1..];
-    match (*kind, *platform) {
-        (b"case", b"elf") => do_case::<R, ElfLike>(rt, alloc, text, setup, lines),
-        (b"case", b"mach") => do_case::<R, MachLike>(rt, alloc, text, setup, lines),
-        (b"link", b"elf") => do_link_of::<R, ElfLike>(rt, alloc, text, setup, lines),
-        (b"link", b"mach") => do_link_of::<R, MachLike>(rt, alloc, text, setup, lines),
+    match *platform {
+        b"elf" => do_case::<R, ElfLike>(rt, alloc, text, setup, &rest[at + 1..]),
+        b"mach" => do_case::<R, MachLike>(rt, alloc, text, setup, &rest[at + 1..]),
         _ => Err(Fault::Case),
     }
 }

@@ -2,12 +2,11 @@
 
 use crate::definitions::definition_of;
 use crate::fault::Fault;
-use crate::words::{key_and_value, listed, name_and_version, number_of, size_of, unescaped};
+use crate::words::{key_and_value, listed, name_and_version, number_of, unescaped};
 use link_flags::Visibility;
 use link_input::{
     InputObject, Inputs, InternalSymDefInfo, Modifiers, ObjectTable, ParsedInputObject, Place,
-    Platform, ProcessedLinkerScript, SectionGroup, StubLibrary, SymbolBinding, SymbolEntry,
-    SymbolKind,
+    Platform, ProcessedLinkerScript, StubLibrary, SymbolBinding, SymbolEntry, SymbolKind,
 };
 use link_names::{Name, Seq};
 use std::alloc::Global;
@@ -49,7 +48,6 @@ fn set_entry(entry: &mut SymbolEntry, word: &[u8]) -> Result<(), Fault> {
         b"local" => entry.binding = SymbolBinding::Local,
         b"weak" => entry.binding = SymbolBinding::Weak,
         b"unique" => entry.binding = SymbolBinding::Unique,
-        b"not_default" => entry.is_default = false,
         b"protected" => entry.visibility = Visibility::Protected,
         b"hidden" => entry.visibility = Visibility::Hidden,
         b"func" => entry.kind = SymbolKind::Func,
@@ -58,19 +56,20 @@ fn set_entry(entry: &mut SymbolEntry, word: &[u8]) -> Result<(), Fault> {
         b"undef" => entry.place = Place::Undefined,
         b"abs" => entry.place = Place::Absolute,
         b"common" => entry.place = Place::Common,
-        _ => return set_number(entry, word),
+        _ => return set_size(entry, word),
     }
     Ok(())
 }
 
-/// Sets the size or the section of an entry: `size=N`, `section=N`.
-fn set_number(entry: &mut SymbolEntry, word: &[u8]) -> Result<(), Fault> {
+/// Sets the size of an entry: `size=N`.
+fn set_size(entry: &mut SymbolEntry, word: &[u8]) -> Result<(), Fault> {
     match key_and_value(word) {
-        Some((b"size", value)) => entry.size = size_of(value)?,
-        Some((b"section", value)) => entry.place = Place::Section(number_of(value)?),
-        _ => return Err(Fault::Word),
+        Some((b"size", value)) => {
+            entry.size = u64::from(number_of(value)?);
+            Ok(())
+        }
+        _ => Err(Fault::Word),
     }
-    Ok(())
 }
 
 /// The entry of a symbol: a definition in the first section, global and visible, but for what the words say. A version behind
@@ -125,44 +124,15 @@ fn object_of(
     }
     let mut object = object_with(alloc, unescaped(alloc, name)?, symbols);
     for word in words {
-        set_object(&mut object, word)?;
+        match *word {
+            b"dynamic" => object.table.is_dynamic = true,
+            b"archive" => object.modifiers.archive = true,
+            b"whole" => object.modifiers.whole_archive = true,
+            b"as_needed" => object.modifiers.as_needed = true,
+            _ => return Err(Fault::Word),
+        }
     }
     Ok(object)
-}
-
-/// Sets what a word says of an object.
-fn set_object(object: &mut TableOf, word: &[u8]) -> Result<(), Fault> {
-    match word {
-        b"dynamic" => object.table.is_dynamic = true,
-        b"archive" => object.modifiers.archive = true,
-        b"whole" => object.modifiers.whole_archive = true,
-        b"as_needed" => object.modifiers.as_needed = true,
-        _ => match key_and_value(word) {
-            Some((b"sections", value)) => object.table.sections = number_of(value)?,
-            _ => return Err(Fault::Word),
-        },
-    }
-    Ok(())
-}
-
-/// A section group: `comdat` or `plain`, its header section, the place of its signature symbol, and its members.
-fn group_of(
-    alloc: Global,
-    kind: &[u8],
-    index: &[u8],
-    signature: &[u8],
-    members: &[&[u8]],
-) -> Result<SectionGroup, Fault> {
-    let mut group = SectionGroup {
-        index: number_of(index)?,
-        signature_symbol: number_of(signature)?,
-        is_comdat: kind == b"comdat".as_slice(),
-        members: Seq::new(alloc),
-    };
-    for member in members {
-        group.members.push(number_of(member)?)?;
-    }
-    Ok(group)
 }
 
 /// A linker script, perhaps with the name of an entry and the text of a version script.
@@ -256,9 +226,6 @@ impl Gathered {
             [b"symbol", name, rest @ ..] => {
                 self.add_symbol(entry_of(alloc, name, rest)?)?;
             }
-            [b"members", kind, index, signature, members @ ..] => {
-                self.add_group(group_of(alloc, kind, index, signature, members)?)?;
-            }
             [b"script", name, rest @ ..] => self.scripts.push(script_of(alloc, name, rest)?)?,
             [b"scripts", count] => self.add_scripts(alloc, number_of(count)?)?,
             [b"def", rest @ ..] => self.add_definition(definition_of(alloc, rest)?)?,
@@ -272,14 +239,6 @@ impl Gathered {
     fn add_symbol(&mut self, entry: SymbolEntry) -> Result<(), Fault> {
         match self.objects.last_mut() {
             Some(object) => Ok(object.table.symbols.push(entry)?),
-            None => Err(Fault::File),
-        }
-    }
-
-    /// Adds a section group to the last object.
-    fn add_group(&mut self, group: SectionGroup) -> Result<(), Fault> {
-        match self.objects.last_mut() {
-            Some(object) => Ok(object.table.groups.push(group)?),
             None => Err(Fault::File),
         }
     }

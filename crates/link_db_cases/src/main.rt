@@ -1,6 +1,5 @@
-//! The database and the resolver by example: standard input is a list of cases, each of calls on a `SymbolDb` or a whole link, and
-//! standard output is what they answer. So a case costs no proof, and two compilers run it. README.md says how a case is written.
-//! With words it times a batch.
+//! The database by example: standard input is a list of cases, each of calls on a `SymbolDb`, and standard output is what they
+//! answer. So a case costs no proof, and two compilers run it. README.md says how a case is written. With words it times a batch.
 #![tactic(auto)]
 
 mod ask;
@@ -11,7 +10,6 @@ mod definitions;
 mod fault;
 mod gather;
 mod link;
-mod linked;
 mod names;
 mod naming;
 mod setup;
@@ -30,7 +28,7 @@ use std::rt::{Clock, Env};
 use std::thread::Threads;
 
 /// At most so many bytes of cases are read.
-const MAX_BYTES: usize = 1 << 26;
+const MAX_BYTES: usize = 1 << 20;
 
 /// The status where something can't be done.
 const FAULT_STATUS: u8 = 2;

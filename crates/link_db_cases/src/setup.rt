@@ -41,7 +41,6 @@ fn set_option(alloc: Global, options: &mut Options, word: &[u8]) -> Result<(), F
         Some((b"export", value)) => options.force_export = listed(alloc, value)?,
         Some((b"custom", value)) => options.custom_sections = listed(alloc, value)?,
         Some((b"demangle", _)) => options.demangle = true,
-        Some((b"multiple", _)) => options.allow_multiple = true,
         _ => return Err(Fault::Word),
     }
     Ok(())

@@ -72,18 +72,6 @@ pub fn number_of(word: &[u8]) -> Result<u32, Fault> {
     }
 }
 
-/// The size that a word writes.
-/// How words are read is left to the cases: no clause says it.
-pub fn size_of(word: &[u8]) -> Result<u64, Fault> {
-    let Some(text) = text_of(word) else {
-        return Err(Fault::Number);
-    };
-    match text.parse() {
-        Ok(size) => Ok(size),
-        Err(_) => Err(Fault::Number),
-    }
-}
-
 /// The lines of a text, each as its words; one that begins with `//` is none.
 /// How a text is cut into lines is left to the cases: no clause says it.
 pub fn lines_of(alloc: Global, text: &[u8]) -> Result<Vec<Vec<&[u8]>>, AllocError> {

@@ -11,4 +11,5 @@ mod signatures;
 pub use candidates::regular_candidates;
 pub use laws::discarded_sections_are_those_of_a_link;
 pub use loaded_groups::LoadedGroups;
+pub use placed::placed_objects;
 pub use signatures::signature_ids;

@@ -37,7 +37,7 @@ fn push_objects<'a, P: Platform>(
     Ok(())
 }
 
-/// The objects of groups, regular and shared ones, each with its place among all.
+/// The objects of groups, regular and shared ones, each with its place among all. The only refusal is want of memory.
 pub fn placed_objects<'a, P: Platform>(
     alloc: Global,
     groups: &'a [Group<P>],

@@ -10,6 +10,7 @@ ghost use Rattle.link_rules.specs.Rivals.{two_steps, versioned_table};
 ghost use Rattle.link_rules.specs.Selection.{Selection};
 ghost use Rattle.link_rules.specs.Undefined.{boundary_makers, final_table, left_undefined, resolved};
 ghost use Rattle.link_rules.specs.Visibility.{narrowed_flags};
+ghost use Rattle.link_undefined.specs.UndefinedNames.{undefined_references};
 ghost use Rattle.link_db.specs.Database.{HasTable, symbol_names};
 ghost use Rattle.link_db.specs.Seen.{seen};
 ghost use Rattle.link_resolve.specs.Settled.{IsSettled};
@@ -50,7 +51,8 @@ fn group_signatures<P: Platform>(
 impl Resolver {
     /// Gives the references that stay undefined what stands for their names: the last reference that asks for the same, or a new symbol for
     /// the start or the end of one of these custom sections, which are those of the options. The new symbols stand in a group of their own
-    /// behind all files. Then the table and the flags are those of the link at its end. It comes once, behind
+    /// behind all files. Then the table and the flags are those of the link at its end. The answer is the references that
+    /// stand for undefined names, in the order of their ids: of those that ask for the same the last, where no new symbol is made. It comes once, behind
     /// `resolve_alternative_symbol_definitions` and `SymbolDb::handle_rust_version_script`. Mirrors Wild's `canonicalise_undefined_symbols`.
     ///
     /// The only refusal is want of memory; then database and flags are of no use.
@@ -60,7 +62,7 @@ impl Resolver {
         db: &mut SymbolDb<P>,
         flags: &mut PerSymbolFlags,
         custom_sections: &[Name],
-    ) -> Result<(), AllocError>
+    ) -> Result<Vec<SymbolId>, AllocError>
         requires added { (seen db.old).mapping.files.added ≡ [] }
         requires table { HasTable (seen db.old) }
         requires flags { length (words_of flags.old) ≡ length (symbol_names (seen db.old)) }
@@ -79,10 +81,13 @@ impl Resolver {
         ensures rules { OnOk result ((seen db.new).rules ≡ (seen db.old).rules) }
         ensures whole { OnOk result (HasTable (seen db.new)) }
         ensures words { OnOk result (length (words_of flags.new) ≡ length (symbol_names (seen db.new))) }
+        ensures undefined { IfOk result (λ ids. (l : Selection) → IsSettled (seen db.old) self.now.known l → l.stage.options.custom_sections ≡ custom_sections.now
+            → ids.items ≡ map (λ u. u.0) (undefined_references l.stage (left_undefined l))) }
+        ensures undefined_within { IfOk result (λ ids. All (λ s. s < length (symbols_in (seen db.old).mapping.files.groups)) ids.items) }
     {
         let signatures = group_signatures(alloc, db, &self.groups)?;
-        canonicalise_references(alloc, db, flags, &self.resolved, custom_sections)?;
+        let undefined = canonicalise_references(alloc, db, flags, &self.resolved, custom_sections)?;
         mark_signatures(db, &signatures, flags);
-        Ok(())
+        Ok(undefined)
     }
 }

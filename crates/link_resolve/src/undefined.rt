@@ -10,6 +10,7 @@ ghost use Rattle.link_rules.specs.Selection.{Selection};
 ghost use Rattle.link_rules.specs.Undefined.{boundary_makers, final_table, left_undefined, resolved as resolution};
 ghost use Rattle.link_rules.specs.Visibility.{narrowed_flags};
 ghost use Rattle.link_undefined.specs.Flagged.{flagged, new_words};
+ghost use Rattle.link_undefined.specs.UndefinedNames.{undefined_references};
 ghost use Rattle.link_db.specs.Database.{HasTable, symbol_names};
 ghost use Rattle.link_db.specs.Seen.{seen};
 ghost use Rattle.link_resolve.specs.Settled.{HasMade, IsSettled};
@@ -21,7 +22,9 @@ use link_flags::PerSymbolFlags;
 use link_ids::{SymbolId, SymbolIdRange};
 use link_input::Platform;
 use link_names::Name;
-use link_undefined::{AskedNames, flag_undefined, point_undefined, references_left};
+use link_undefined::{
+    AskedNames, flag_undefined, point_undefined, references_left, undefined_references,
+};
 use std::alloc::{AllocError, Global};
 
 /// A copy of what each symbol points to.
@@ -69,8 +72,17 @@ fn names_of<P: Platform>(
     Ok(names)
 }
 
+/// What stands for undefined names.
+#[derive(Drop)]
+struct Canonical {
+    /// The names for which new symbols are to be made, in their order.
+    new_names: Vec<Name>,
+    /// The references that stand for the other names, in the order of their ids.
+    references: Vec<SymbolId>,
+}
+
 /// Points the references that stay undefined to what stands for their names, and flags them and that, in a table of versions and in narrowed
-/// flags. The answer is the names for which new symbols are to be made, in their order: the table and the flags have an entry for each of them.
+/// flags. The table and the flags have an entry for each new symbol that is to be made.
 fn point_and_flag<P: Platform>(
     alloc: Global,
     db: &SymbolDb<P>,
@@ -78,7 +90,7 @@ fn point_and_flag<P: Platform>(
     custom_sections: &[Name],
     table: &mut Vec<SymbolId>,
     flags: &mut PerSymbolFlags,
-) -> Result<Vec<Name>, AllocError>
+) -> Result<Canonical, AllocError>
     requires added { (seen db.now).mapping.files.added ≡ [] }
     requires fits { length (symbol_names (seen db.now)) + 2 * length custom_sections.now ≤ 2 ^ 32 }
     requires table { length table.old.items ≡ length (symbol_names (seen db.now)) }
@@ -88,13 +100,16 @@ fn point_and_flag<P: Platform>(
     ensures flags { OnOk result ((l : Selection) → IsSettled (seen db.now) resolved.now l → l.stage.options.custom_sections ≡ custom_sections.now
         → table.old.items ≡ versioned_table l → numbers_of (words_of flags.old) ≡ narrowed_flags l
         → numbers_of (words_of flags.new) ≡ flagged (resolution l) (narrowed_flags l) (new_words (resolution l))) }
-    ensures names { IfOk result (λ names. (l : Selection) → IsSettled (seen db.now) resolved.now l → l.stage.options.custom_sections ≡ custom_sections.now
-        → names.items ≡ map (λ m. m.1.name) (boundary_makers l.stage (left_undefined l))) }
-    ensures few { IfOk result (λ names. length names.items ≤ 2 * length custom_sections.now) }
-    ensures entries { IfOk result (λ names. length table.new.items ≡ length (symbol_names (seen db.now)) + length names.items) }
-    ensures words { IfOk result (λ names. length (words_of flags.new) ≡ length (symbol_names (seen db.now)) + length names.items) }
-    ensures inside { IfOk result (λ names. All (λ t. t < length (symbol_names (seen db.now))) table.old.items
-        → All (λ t. t < length (symbol_names (seen db.now)) + length names.items) table.new.items) }
+    ensures names { IfOk result (λ made. (l : Selection) → IsSettled (seen db.now) resolved.now l → l.stage.options.custom_sections ≡ custom_sections.now
+        → made.new_names.items ≡ map (λ m. m.1.name) (boundary_makers l.stage (left_undefined l))) }
+    ensures few { IfOk result (λ made. length made.new_names.items ≤ 2 * length custom_sections.now) }
+    ensures entries { IfOk result (λ made. length table.new.items ≡ length (symbol_names (seen db.now)) + length made.new_names.items) }
+    ensures words { IfOk result (λ made. length (words_of flags.new) ≡ length (symbol_names (seen db.now)) + length made.new_names.items) }
+    ensures inside { IfOk result (λ made. All (λ t. t < length (symbol_names (seen db.now))) table.old.items
+        → All (λ t. t < length (symbol_names (seen db.now)) + length made.new_names.items) table.new.items) }
+    ensures undefined { IfOk result (λ made. (l : Selection) → IsSettled (seen db.now) resolved.now l → l.stage.options.custom_sections ≡ custom_sections.now
+        → made.references.items ≡ map (λ u. u.0) (undefined_references l.stage (left_undefined l))) }
+    ensures undefined_within { IfOk result (λ made. All (λ s. s < length (symbols_in (seen db.now).mapping.files.groups)) made.references.items) }
 {
     let files = db.files();
     let left = references_left(alloc, files, resolved.loaded(), resolved.targets())?;
@@ -104,8 +119,12 @@ fn point_and_flag<P: Platform>(
     let names = Definitions { db };
     let output = db.output_kind();
     flag_undefined(files, left, &names, &asked, table.as_slice(), output, flags)?;
-    let made = names_of(alloc, db, asked.makers())?;
-    Ok(made)
+    let references = undefined_references(alloc, files, left, &asked)?;
+    let new_names = names_of(alloc, db, asked.makers())?;
+    Ok(Canonical {
+        new_names,
+        references,
+    })
 }
 
 /// Adds a symbol of each of these names to the last group, that of the symbols that the linker makes.
@@ -146,7 +165,8 @@ fn add_group_of<P: Platform>(
 
 /// Points the references that stay undefined to what stands for their names: the last reference that asks for the same, or a new symbol for the start or
 /// the end of one of these custom sections. The new symbols stand in a group of their own behind all files; flags are those of the
-/// end, but for those of signatures. It wants the table of versions and narrowed flags.
+/// end, but for those of signatures. It wants the table of versions and narrowed flags. The answer is the references that stand for undefined names, in
+/// the order of their ids.
 ///
 /// The only refusal is want of memory; then database and flags are of no use.
 ///
@@ -157,7 +177,7 @@ pub(crate) fn canonicalise_references<P: Platform>(
     flags: &mut PerSymbolFlags,
     resolved: &Resolved,
     custom_sections: &[Name],
-) -> Result<(), AllocError>
+) -> Result<Vec<SymbolId>, AllocError>
     requires added { (seen db.old).mapping.files.added ≡ [] }
     requires table { HasTable (seen db.old) }
     requires flags { length (words_of flags.old) ≡ length (symbol_names (seen db.old)) }
@@ -176,12 +196,19 @@ pub(crate) fn canonicalise_references<P: Platform>(
     ensures rules { OnOk result ((seen db.new).rules ≡ (seen db.old).rules) }
     ensures whole { OnOk result (HasTable (seen db.new)) }
     ensures words { OnOk result (length (words_of flags.new) ≡ length (symbol_names (seen db.new))) }
+    ensures undefined { IfOk result (λ ids. (l : Selection) → IsSettled (seen db.old) resolved.now l → l.stage.options.custom_sections ≡ custom_sections.now
+        → ids.items ≡ map (λ u. u.0) (undefined_references l.stage (left_undefined l))) }
+    ensures undefined_within { IfOk result (λ ids. All (λ s. s < length (symbols_in (seen db.old).mapping.files.groups)) ids.items) }
 {
     let mut table = copied_definitions(alloc, db)?;
     let mut ended = copied_flags(alloc, flags)?;
-    let names = point_and_flag(alloc, db, resolved, custom_sections, &mut table, &mut ended)?;
-    add_group_of(alloc, db, flags, names)?;
+    let made = point_and_flag(alloc, db, resolved, custom_sections, &mut table, &mut ended)?;
+    let Canonical {
+        new_names,
+        references,
+    } = made;
+    add_group_of(alloc, db, flags, new_names)?;
     db.restore_definitions(table);
     *flags = ended;
-    Ok(())
+    Ok(references)
 }

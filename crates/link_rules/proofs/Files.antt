@@ -10,7 +10,7 @@ use Rattle.link_input.specs.InputFiles.{Batch, InputFile, prelude, object, linke
 use Rattle.link_input.specs.Limits.{counts_of, total}
 use Rattle.link_input.specs.ObjectFile.{ObjectFile}
 use Rattle.link_input.specs.Symbols.{Symbol, file_symbols, symbols_of}
-use Rattle.link_rules.specs.World.{World, Stage, start_of, with_batch}
+use Rattle.link_rules.specs.World.{World, Stage, first_stage, start_of, with_batch}
 use Rattle.link_rules.specs.Marking.{ended}
 use Rattle.link_rules.specs.Selection.{selection_of}
 use Rattle.link_rules.specs.Refusals.{counts_at}
@@ -170,3 +170,11 @@ pub stage-files : (world : World) (w : Stage) → IsStageOf world w
 stage-files world w to =
     let found = comes world.options [] (start_of world) world.first world.later w (starts world) to in
     (found.0, found.1, found.2, found.3.symbols, counts-same world.options found.0 w found.3)
+
+-- with its first batch a link has the symbols of the files of that batch
+pub first-symbols : (world : World) → (first_stage world).symbols ≡ symbols_of 0 (input_files world.options (world.first ∷ []))
+first-symbols world = (grows world.options [] (start_of world) world.first (starts world)).symbols
+
+-- and their counts
+pub first-counts : (world : World) → counts_at (first_stage world) ≡ counts_of world.options (world.first ∷ [])
+first-counts world = counts-same world.options (world.first ∷ []) (first_stage world) (grows world.options [] (start_of world) world.first (starts world))

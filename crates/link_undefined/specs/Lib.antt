@@ -8,3 +8,4 @@ pub mod Edited
 pub mod Pointed
 pub mod Says
 pub mod Flagged
+pub mod UndefinedNames

@@ -11,6 +11,7 @@ mod name_ids;
 mod pointing;
 mod reference;
 mod references;
+mod undefined_names;
 
 pub use asked_name::AskedName;
 pub use asked_names::AskedNames;
@@ -18,3 +19,4 @@ pub use flagging::{flag_references, flag_undefined};
 pub use laws::signatures_are_left;
 pub use pointing::{point_references, point_undefined};
 pub use references::references_left;
+pub use undefined_names::undefined_references;

@@ -1,6 +1,4 @@
-use Rattle.std.proofs.Common.{◌≡◌, ◌∙◌, ap, length, map, sym}
-use Rattle.std.proofs.lemmas.List.{length-map}
-use Rattle.link_closure.specs.Workload.{bits_for}
+use Rattle.std.proofs.Common.{◌≡◌, ◌∙◌, ap, map, sym}
 use Rattle.link_files.specs.GroupFiles.{symbols_in}
 use Rattle.link_files.specs.HeldFiles.{HeldFiles}
 use Rattle.link_flags.specs.FlagWords.{numbers_of, words_of}

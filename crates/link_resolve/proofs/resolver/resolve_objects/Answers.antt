@@ -1,4 +1,4 @@
-use Rattle.std.proofs.Common.{◌≡◌, ◌∙◌, Bool, Err, List, None, ap, length, subst, sym}
+use Rattle.std.proofs.Common.{◌≡◌, ◌∙◌, Bool, Err, List, None, ap, subst, sym}
 use Rattle.std.specs.List.{filter_map}
 use Rattle.link_files.specs.GroupFiles.{symbols_in}
 use Rattle.link_files.specs.HeldFiles.{HeldFiles}

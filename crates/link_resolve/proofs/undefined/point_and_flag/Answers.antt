@@ -18,7 +18,7 @@ returns-clause-names g c = λ l. λ settled. λ sections.
     let tells = told-of db c.args.resolved.now c.files-files.result.now c.loaded.result.now c.targets.result.now l settled c.files-files.ensures c.loaded.ensures c.targets.ensures in
     let records : numbered_at symbols c.as_slice-left.result.now ≡ left_undefined l = ap (numbered_at symbols) c.as_slice-left.ensures.value ∙ c.in_ok-left.ensures.records l tells in
     let asked = c.in_ok-asked.ensures.asked l.stage (record { symbols_are = tells.symbols_are; sections_are = sections }) in
-    c.in_ok-made.ensures
+    c.in_ok-new_names.ensures
     ∙ ap (map (λ (s : ℕ). slice_index_or (symbol_names db) s []))
     (c.makers.ensures ∙ asked.makers ∙ ap (λ (left : List Numbered). map (λ (u : Numbered). u.0) (boundary_makers l.stage left)) records)
     ∙ names-made-for db c.args.resolved.now l settled c.requires.added
@@ -30,9 +30,9 @@ returns-clause-inside g c = λ all.
     let asked = c.in_ok-asked.asked in
     let symbols = symbols_in c.files-files.result.now.groups in
     let same : length symbols ≡ count = count-symbols c.files-files.result.now db.mapping.files c.files-files.ensures c.requires.added in
-    let many : length c.in_ok-made.made.items ≡ length (makers_in asked) =
-    ap length c.in_ok-made.ensures ∙ length-map c.makers.result.now (λ (s : ℕ). slice_index_or (symbol_names db) s []) ∙ ap length c.makers.ensures in
-    let high = count + length c.in_ok-made.made.items in
+    let many : length c.in_ok-new_names.new_names.items ≡ length (makers_in asked) =
+    ap length c.in_ok-new_names.ensures ∙ length-map c.makers.result.now (λ (s : ℕ). slice_index_or (symbol_names db) s []) ∙ ap length c.makers.ensures in
+    let high = count + length c.in_ok-new_names.new_names.items in
     let both : length symbols + length (makers_in asked) ≡ high = omega (arith, same, many) in
     let below : AreBelow high asked = subst (λ (n : ℕ). AreBelow n asked) both c.in_ok-asked.ensures.below in
     c.in_ok-point_undefined.ensures.below high below (omega (arith, same)) (All-weaker (λ t. t < count) (λ t. t < high) (λ t lt. omega (arith, lt)) c.args.table.now.items all)

@@ -13,11 +13,15 @@ use Rattle.link_resolve.proofs.resolver.Resolver.canonicalise_undefined.Goals as
 
 pub returns-clause-table : goal.returns-clause-table
 returns-clause-table g c = λ l is sections table.
-    c.in_ok-canonicalise_references.ensures.table l (subst (λ (k : Known). IsSettled (seen c.args.db.now) k l) (sym (ap (λ (r : Resolving). r.known) c.self.view_is)) is) sections table
+    c.in_ok-undefined.ensures.table l (subst (λ (k : Known). IsSettled (seen c.args.db.now) k l) (sym (ap (λ (r : Resolving). r.known) c.self.view_is)) is) sections table
 
 pub returns-clause-added : goal.returns-clause-added
 returns-clause-added g c = λ l is sections.
-    c.in_ok-canonicalise_references.ensures.added l (subst (λ (k : Known). IsSettled (seen c.args.db.now) k l) (sym (ap (λ (r : Resolving). r.known) c.self.view_is)) is) sections
+    c.in_ok-undefined.ensures.added l (subst (λ (k : Known). IsSettled (seen c.args.db.now) k l) (sym (ap (λ (r : Resolving). r.known) c.self.view_is)) is) sections
+
+pub returns-clause-undefined : goal.returns-clause-undefined
+returns-clause-undefined g c = λ l is sections.
+    c.in_ok-undefined.ensures.undefined l (subst (λ (k : Known). IsSettled (seen c.args.db.now) k l) (sym (ap (λ (r : Resolving). r.known) c.self.view_is)) is) sections
 
 -- signatures come to the flags of the end
 pub returns-clause-flags : goal.returns-clause-flags
@@ -27,9 +31,9 @@ returns-clause-flags g c = λ l is sections table are narrowed.
     let entries = (seen c.canonicalise_references.new.db).table in
     c.mark_signatures.ensures
     ∙ (ap (λ (ids : List ℕ). with_marks (map (λ (id : ℕ). mark_on (two_steps entries id) flag.group_signature) ids) (numbers_of (words_of c.canonicalise_references.new.flags))) c.deref.ensures.value
-    ∙ signed-are l entries c.in_ok-signatures.signatures.items (numbers_of (words_of c.canonicalise_references.new.flags)) (c.in_ok-canonicalise_references.ensures.table l settled sections table)
-    (c.in_ok-signatures.ensures.ids l is.objects is.symbols is.options groups entries) (c.in_ok-canonicalise_references.ensures.flags l settled sections table narrowed))
+    ∙ signed-are l entries c.in_ok-signatures.signatures.items (numbers_of (words_of c.canonicalise_references.new.flags)) (c.in_ok-undefined.ensures.table l settled sections table)
+    (c.in_ok-signatures.ensures.ids l is.objects is.symbols is.options groups entries) (c.in_ok-undefined.ensures.flags l settled sections table narrowed))
 
 pub returns-clause-words : goal.returns-clause-words
 returns-clause-words g c =
-    marked-length _ (words_of c.canonicalise_references.new.flags) (words_of c.mark_signatures.new.flags) c.mark_signatures.ensures ∙ c.in_ok-canonicalise_references.ensures.words
+    marked-length _ (words_of c.canonicalise_references.new.flags) (words_of c.mark_signatures.new.flags) c.mark_signatures.ensures ∙ c.in_ok-undefined.ensures.words
