@@ -3,7 +3,7 @@ use Rattle.std.proofs.Common.{◌≡◌, ℕ, ◌+◌, Bool, List, [], ◌∷◌
 use Rattle.std.proofs.lemmas.Grind.{common_steps}
 use Rattle.link_input.specs.Checks.{first_fault}
 use Rattle.link_input.specs.ObjectFile.{ObjectFile}
-use Rattle.link_manifest.specs.Manifest.{tables_checked}
+use Rattle.link_manifest.specs.Checked.{tables_checked}
 use Rattle.link_manifest.specs.Reading.{and_read}
 
 -- an object whose table passes goes behind those that were checked

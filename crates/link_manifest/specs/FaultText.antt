@@ -6,9 +6,9 @@ use Rattle.link_input.specs.TableErrorText.{table_error_text}
 use Rattle.link_manifest.specs.declared.fault.Step.{Step}
 use Rattle.link_manifest.specs.declared.fault.Step.TheVariants.{Key, Item}
 use Rattle.link_manifest.specs.declared.fault.Kind.{Kind}
-use Rattle.link_manifest.specs.declared.fault.Kind.TheVariants.{Object, List as a_list, Text, Bytes, Bool, Number, Place}
+use Rattle.link_manifest.specs.declared.fault.Kind.TheVariants.{Object, List as a_list, Text, Bytes, Bool, Number, Word, Place}
 use Rattle.link_manifest.specs.declared.fault.Problem.{Problem}
-use Rattle.link_manifest.specs.declared.fault.Problem.TheVariants.{TooLong, NotJson, UnknownKey, Missing, Expected, Table}
+use Rattle.link_manifest.specs.declared.fault.Problem.TheVariants.{TooLong, NotJson, UnknownKey, Missing, Expected, Repeated, Table}
 use Rattle.link_manifest.specs.declared.fault.ManifestFault.{ManifestFault}
 
 -- what a value has to be
@@ -19,6 +19,7 @@ kind_text Text = codes "text"
 kind_text Bytes = codes "bytes"
 kind_text Bool = codes "bool"
 kind_text Number = codes "number"
+kind_text Word = codes "word"
 kind_text Place = codes "place"
 
 -- what is wrong
@@ -28,6 +29,7 @@ problem_text NotJson = codes "not JSON"
 problem_text UnknownKey = codes "unknown key"
 problem_text Missing = codes "missing"
 problem_text (Expected kind) = codes "expected " ++ kind_text kind
+problem_text Repeated = codes "repeated"
 problem_text (Table error) = table_error_text error
 
 -- the first step of a path

@@ -1,4 +1,12 @@
 pub mod FaultText
 pub mod Reading
 pub mod Values
+pub mod Words
+pub mod Symbols
+pub mod Objects
+pub mod Redirects
+pub mod Libraries
+pub mod LinkOptions
+pub mod Checked
 pub mod Manifest
+pub mod Examples

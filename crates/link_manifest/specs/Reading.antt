@@ -1,9 +1,9 @@
 -- What reading a value gives: what it stands for, or its first fault, with the path from the value to it.
-use Rattle.std.specs.Prelude.{◌≡◌, ℕ, ◌+◌, List, [], ◌∷◌, cond, Option, Some, None, Result, Ok, Err, ⊤}
+use Rattle.std.specs.Prelude.{◌≡◌, ℕ, ◌+◌, List, [], ◌∷◌, cond, Option, Some, None, is_some, Result, Ok, Err, ⊤, if◌then◌else◌}
 use Rattle.std.specs.List.{list_any}
 use Rattle.std.specs.Str.{bytes_eq}
 use Rattle.serde_json.specs.Data.{Data, Items, no_items, item, Members, no_members, member}
-use Rattle.serde_json.specs.Find.{get, as_array, as_object}
+use Rattle.serde_json.specs.Find.{get, as_array, as_null, as_object}
 use Rattle.link_manifest.specs.declared.fault.Step.{Step}
 use Rattle.link_manifest.specs.declared.fault.Step.TheVariants.{Key, Item}
 use Rattle.link_manifest.specs.declared.fault.Kind.TheVariants as kind
@@ -69,6 +69,10 @@ or_default default read (Some value) = read value
 -- the value of a key that may be left out
 abbrev pub optional : {A : Type 0} → List ℕ → (Data → Result A ManifestFault) → A → Data → Result A ManifestFault
 optional key read default value = within (Key key) (or_default default read (get key value))
+
+-- such a value, or null, which stands for none
+abbrev pub or_null : {A : Type 0} → (Data → Result A ManifestFault) → Data → Result (Option A) ManifestFault
+or_null read value = if is_some (as_null value) then Ok None else and_read (read value) (λ found. Ok (Some found))
 
 -- items one after another, of which the first has this place
 abbrev pub items_read : {A : Type 0} → (Data → Result A ManifestFault) → ℕ → Items → Result (List A) ManifestFault

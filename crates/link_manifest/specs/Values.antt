@@ -1,5 +1,5 @@
 -- Kinds of value of a manifest, and what a value of each stands for.
-use Rattle.std.specs.Prelude.{ℕ, ◌^◌, ◌&&◌, List, Bool, Option, Some, None, Result, codes, nat_le, nat_lt, option_map, option_and_then, if◌then◌else◌}
+use Rattle.std.specs.Prelude.{ℕ, ◌^◌, ◌&&◌, List, [], ◌∷◌, Bool, Option, Some, None, Result, codes, nat_le, nat_lt, option_map, option_and_then, if◌then◌else◌}
 use Rattle.std.specs.Option.{option_or}
 use Rattle.std.specs.Result.{result_ok}
 use Rattle.std.specs.Str.{bytes_eq}
@@ -7,7 +7,8 @@ use Rattle.hex.specs.Hex.{decode_of}
 use Rattle.serde_json.specs.Data.{Data, Members, no_members, member}
 use Rattle.serde_json.specs.Find.{as_bool, as_number, as_object, as_str, as_u64}
 use Rattle.link_input.specs.declared.symbol_entry.Place.{Place}
-use Rattle.link_input.specs.declared.symbol_entry.Place.TheVariants.{Undefined, Section}
+use Rattle.link_input.specs.declared.symbol_entry.Place.TheVariants.{Undefined, Absolute, Common, Section}
+use Rattle.link_names.specs.Names.{value_in}
 use Rattle.link_manifest.specs.declared.fault.Kind.TheVariants as kind
 use Rattle.link_manifest.specs.declared.fault.Problem.TheVariants.{Expected}
 use Rattle.link_manifest.specs.declared.fault.ManifestFault.{ManifestFault}
@@ -45,6 +46,13 @@ number_of value = option_and_then (λ n. if nat_lt n (2 ^ 32) then Some n else N
 abbrev pub number_read : Data → Result ℕ ManifestFault
 number_read value = read_or (Expected kind.Number) (number_of value)
 
+-- a whole number without fraction or exponent, below 2 ^ 64: those of JSON have no more bits
+abbrev pub size_of : Data → Option ℕ
+size_of value = option_and_then as_u64 (as_number value)
+
+abbrev pub size_read : Data → Result ℕ ManifestFault
+size_read value = read_or (Expected kind.Number) (size_of value)
+
 -- how many files may be one group: a number from 1 to 256
 abbrev pub group_size_of : Data → Option ℕ
 group_size_of value = option_and_then (λ n. if nat_le 1 n && nat_le n 256 then Some n else None) (number_of value)
@@ -52,9 +60,13 @@ group_size_of value = option_and_then (λ n. if nat_le 1 n && nat_le n 256 then 
 abbrev pub group_size_read : Data → Result ℕ ManifestFault
 group_size_read value = read_or (Expected kind.Number) (group_size_of value)
 
--- `undefined`, or the number of a section
+-- the words for places outside every section
+abbrev pub place_words : List (List ℕ × Place)
+place_words = (codes "undefined", Undefined) ∷ (codes "absolute", Absolute) ∷ (codes "common", Common) ∷ []
+
+-- one of these words, or the number of a section
 abbrev pub place_of : Option (List ℕ) → Option ℕ → Option Place
-place_of (Some word) number = if bytes_eq word (codes "undefined") then Some Undefined else None
+place_of (Some word) number = value_in place_words word
 place_of None number = option_map (λ n. Section n) number
 
 abbrev pub place_read : Data → Result Place ManifestFault

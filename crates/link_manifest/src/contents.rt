@@ -1,6 +1,6 @@
 //! What a manifest says, before any table of it is checked; no platform stands in its type.
 
-use link_input::{Modifiers, ObjectTable, Options};
+use link_input::{Modifiers, ObjectTable, Options, ProcessedLinkerScript, Scripts, StubLibrary};
 use link_names::{Name, Seq};
 use std::marker::Model;
 
@@ -24,5 +24,8 @@ impl Model for UncheckedObject {
 #[derive(Drop)]
 pub(crate) struct Contents {
     pub(crate) options: Options,
+    pub(crate) texts: Scripts,
     pub(crate) objects: Seq<UncheckedObject>,
+    pub(crate) scripts: Seq<ProcessedLinkerScript>,
+    pub(crate) stubs: Seq<StubLibrary>,
 }

@@ -34,7 +34,9 @@ pub enum Kind {
     Bool,
     /// A whole number without fraction or exponent, in the range of its key: 0 to 2^32 - 1 where no other is given.
     Number,
-    /// `undefined`, or the number of a section.
+    /// One of the words that its key may have.
+    Word,
+    /// `undefined`, `absolute`, `common`, or the number of a section.
     Place,
 }
 
@@ -51,6 +53,8 @@ pub enum Problem {
     Missing,
     /// The value is not of this kind.
     Expected(Kind),
+    /// The name of a custom section stands earlier in the list too.
+    Repeated,
     /// The table of an object fails a check, and this is the first.
     Table(TableError),
 }
@@ -101,6 +105,7 @@ impl fmt::Display for Kind {
             Kind::Bytes => "bytes",
             Kind::Bool => "bool",
             Kind::Number => "number",
+            Kind::Word => "word",
             Kind::Place => "place",
         })
     }
@@ -119,6 +124,7 @@ impl fmt::Display for Problem {
             Problem::UnknownKey => f.write_str("unknown key"),
             Problem::Missing => f.write_str("missing"),
             Problem::Expected(kind) => write!(f, "expected {kind}"),
+            Problem::Repeated => f.write_str("repeated"),
             Problem::Table(error) => write!(f, "{error}"),
         }
     }

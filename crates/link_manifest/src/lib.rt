@@ -8,15 +8,24 @@
 mod contents;
 mod fault;
 mod laws;
+mod libraries;
+mod link_options;
 mod manifest;
+mod objects;
 mod path;
 mod reading;
+mod redirects;
+mod sections;
+mod symbols;
 mod tables;
 #[cfg(test)]
 mod tests;
 mod values;
-mod walk;
+mod words;
 
 pub use fault::{Kind, ManifestError, ManifestFault, Problem, Step};
-pub use laws::{read_manifests, refused_manifests, written_faults};
-pub use manifest::{MAX_BYTES, Manifest, manifest_of};
+pub use laws::{
+    read_libraries, read_object_keys, read_objects, read_options, refused_values, refused_wholes,
+    written_faults,
+};
+pub use manifest::{MAX_BYTES, Manifest, manifest_leaking_tree, manifest_of};

@@ -1,18 +1,24 @@
 //! A manifest, and which bytes are one.
 
-ghost use Rattle.std.specs.Prelude.{◌≡◌, Ok, Err, IfOk, IfErr, IsErrOf};
+ghost use Rattle.std.specs.Prelude.{◌≡◌, Ok, Err, IfOk, IfErr};
 ghost use Rattle.serde_json.specs.View.{view};
 ghost use Rattle.link_manifest.specs.declared.fault.ManifestFault.{ManifestFault};
-ghost use Rattle.link_manifest.specs.Manifest.{json_of, manifest_of, elf_checked};
-ghost use Rattle.link_manifest.specs.Reading.{Reads, read_or, IsFaultOf};
+ghost use Rattle.link_manifest.specs.Checked.{AreDistinct, HasDistinctSections, HasGroupSize, IsGroupSize, contents_checked};
+ghost use Rattle.link_manifest.specs.Manifest.{contents_read, json_of, manifest_of, root_read, tree_of, world_of, world_read};
+ghost use Rattle.link_manifest.specs.Reading.{IsFaultOf, Reads, and_read, read_or};
 
 use crate::contents::Contents;
 use crate::fault::{ManifestError, Problem};
+use crate::libraries::{Script, Stub};
+use crate::link_options::{options, texts};
+use crate::objects::Object;
 use crate::path::fault_here;
+use crate::reading::{object_of_keys, optional, optional_list};
+use crate::sections::sections_checked;
 use crate::tables::checked_objects;
-use crate::walk::root;
-use link_input::{ElfLike, Inputs, MachLike, Scripts, World};
-use link_names::{Seq, text_of};
+use crate::words::{OneOf, PlatformName};
+use link_input::{ElfLike, Inputs, MachLike, Platform, World};
+use link_names::text_of;
 use serde_json::Value;
 use std::alloc::Global;
 use std::mem::ManuallyDrop;
@@ -20,12 +26,100 @@ use std::mem::ManuallyDrop;
 /// How many bytes a manifest may have: 2^28.
 pub const MAX_BYTES: usize = 1 << 28;
 
-/// What is linked, and how, for the platform that the manifest names. It can't name one yet: each manifest that is
-/// read is `Elf`.
+/// What is linked, and how, for the platform that the manifest names.
 #[derive(Drop)]
 pub enum Manifest {
     Elf(World<ElfLike>),
     Mach(World<MachLike>),
+}
+
+/// What the root says behind its platform.
+fn contents<P: Platform>(alloc: Global, value: &Value) -> Result<Contents, ManifestError>
+    ensures read { Reads result (contents_read P.HAS_NULL_SYMBOL_ENTRY (view value.now)) }
+    ensures group_size { IfOk result (λ contents. IsGroupSize contents.options.files_per_group) }
+{
+    let options = options(alloc, value)?;
+    let texts = texts(alloc, value)?;
+    let objects = optional_list::<Object<P>>(alloc, value, "objects")?;
+    let scripts = optional_list::<Script>(alloc, value, "scripts")?;
+    let stubs = optional_list::<Stub>(alloc, value, "stubs")?;
+    Ok(Contents {
+        options,
+        texts,
+        objects,
+        scripts,
+        stubs,
+    })
+}
+
+/// The world of some contents, where they pass the checks.
+fn checked_world<P: Platform>(alloc: Global, contents: Contents) -> Result<World<P>, ManifestError>
+    ensures read { Reads result (and_read (contents_checked P.HAS_NULL_SYMBOL_ENTRY contents) (λ _. Ok (world_of contents))) }
+    ensures options { IfOk result (λ world. world.options ≡ contents.options) }
+    ensures distinct { IfOk result (λ world. AreDistinct world.options.custom_sections) }
+{
+    let Contents {
+        options,
+        texts,
+        objects,
+        scripts,
+        stubs,
+    } = contents;
+    sections_checked(alloc, options.custom_sections.as_slice())?;
+    Ok(World {
+        inputs: Inputs {
+            objects: checked_objects(alloc, objects)?,
+            scripts,
+            stubs,
+        },
+        options,
+        scripts: texts,
+    })
+}
+
+/// The world that the root of a tree describes.
+fn world<P: Platform>(alloc: Global, value: &Value) -> Result<World<P>, ManifestError>
+    ensures read { Reads result (world_read P.HAS_NULL_SYMBOL_ENTRY (view value.now)) }
+    ensures group_size { IfOk result (λ world. IsGroupSize world.options.files_per_group) }
+    ensures distinct { IfOk result (λ world. AreDistinct world.options.custom_sections) }
+{
+    let contents = contents::<P>(alloc, value)?;
+    checked_world(alloc, contents)
+}
+
+/// The manifest that a tree describes.
+fn root(alloc: Global, value: &Value) -> Result<Manifest, ManifestError>
+    ensures read { Reads result (root_read (view value.now)) }
+    ensures group_size { IfOk result HasGroupSize }
+    ensures distinct { IfOk result HasDistinctSections }
+{
+    object_of_keys(
+        alloc,
+        value,
+        &[
+            "platform",
+            "output",
+            "entry",
+            "default_entry",
+            "allow_multiple",
+            "files_per_group",
+            "wrap",
+            "force_undefined",
+            "force_export",
+            "defsym",
+            "linker_symbols",
+            "custom_sections",
+            "version_script",
+            "export_list",
+            "objects",
+            "scripts",
+            "stubs",
+        ],
+    )?;
+    match optional::<OneOf<PlatformName>>(alloc, value, "platform", PlatformName::Elf)? {
+        PlatformName::Elf => Ok(Manifest::Elf(world(alloc, value)?)),
+        PlatformName::Mach => Ok(Manifest::Mach(world(alloc, value)?)),
+    }
 }
 
 /// The JSON value of some bytes.
@@ -43,48 +137,49 @@ fn json_of(alloc: Global, bytes: &[u8]) -> Result<Value, ManifestError>
     }
 }
 
-/// The manifest for a platform like ELF, where the tables pass the checks.
-fn elf_checked(alloc: Global, contents: Contents) -> Result<Manifest, ManifestError>
-    ensures { Reads result (elf_checked contents) }
-{
-    let Contents { options, objects } = contents;
-    let inputs = Inputs {
-        objects: checked_objects(alloc, objects)?,
-        scripts: Seq::new(alloc),
-        stubs: Seq::new(alloc),
-    };
-    let scripts = Scripts {
-        version_script: None,
-        export_list: None,
-    };
-    Ok(Manifest::Elf(World {
-        inputs,
-        options,
-        scripts,
-    }))
-}
-
-/// The manifest that some bytes are: one JSON value of at most [`MAX_BYTES`] bytes in UTF-8 (RFC
-/// 8259). The root is an object with the keys `files_per_group`, a number from 1 to 256 (256 where
-/// it is left out), and `objects`, a list of objects. Such an object has the keys `name`, `archive`,
-/// `whole_archive`, `sections` and `symbols`, and a symbol has `name` and `place`. A symbol's name is
-/// a text, or an object with the one key `hex`, whose text gives its bytes by two hexadecimal digits
-/// each, of either case.
-///
-/// Where the bytes are no manifest, the first fault is told: too many bytes, then no JSON value,
-/// then the first fault on a walk of the value from its root, at each object its kind, its least
-/// unknown key, and then its keys in their order, as above; last, of the first object whose table
-/// fails a check of `InputObject::new`, the first check that it fails.
-pub fn manifest_of(alloc: Global, bytes: &[u8]) -> Result<Manifest, ManifestError>
-    ensures manifest { IfOk result (λ manifest. manifest_of bytes.now ≡ Ok manifest) }
-    ensures fault { (fault : ManifestFault) → result ≡ Err (ManifestError.At fault) → manifest_of bytes.now ≡ Err fault }
+/// The JSON value of bytes that are not too many.
+fn tree_of(alloc: Global, bytes: &[u8]) -> Result<Value, ManifestError>
+    ensures value { IfOk result (λ value. tree_of bytes.now ≡ Ok (view value)) }
+    ensures none { IfErr result (λ error. IsFaultOf error (tree_of bytes.now)) }
 {
     if bytes.len() > MAX_BYTES {
         return Err(fault_here(alloc, Problem::TooLong));
     }
-    // A large tree is slow to take apart, and memory that was handed back piece by piece slows down
-    // all that is made later: it is left to the end of the program.
-    let value = ManuallyDrop::new(json_of(alloc, bytes)?);
-    let contents = root(alloc, &value)?;
-    elf_checked(alloc, contents)
+    json_of(alloc, bytes)
+}
+
+/// The manifest that some bytes are: one JSON value of at most [`MAX_BYTES`] bytes in UTF-8 (RFC
+/// 8259), an object. Which keys it and the objects in it have, of which kind and in which order, tells
+/// the table in README.md at the top of the repository.
+///
+/// Where the bytes are no manifest, the first fault is told: too many bytes, then no JSON value,
+/// then the first fault on a walk of the whole value from its root, at each object its kind, its
+/// least unknown key, and then its keys in their order; then the first custom section that repeats
+/// an earlier one; last, of the first object whose table fails a check of `InputObject::new`, the
+/// first check that it fails.
+///
+/// The JSON value is taken apart before the answer. For a program that links once and ends
+/// there is [`manifest_leaking_tree`], which doesn't pay for that.
+pub fn manifest_of(alloc: Global, bytes: &[u8]) -> Result<Manifest, ManifestError>
+    ensures manifest { IfOk result (λ manifest. manifest_of bytes.now ≡ Ok manifest) }
+    ensures fault { (fault : ManifestFault) → result ≡ Err (ManifestError.At fault) → manifest_of bytes.now ≡ Err fault }
+    ensures group_size { IfOk result HasGroupSize }
+    ensures distinct { IfOk result HasDistinctSections }
+{
+    let value = tree_of(alloc, bytes)?;
+    root(alloc, &value)
+}
+
+/// The same answer as that of [`manifest_of`], but the JSON value is never taken apart: its memory,
+/// some ten times the bytes, stays taken until the program ends. It is for a program that reads one
+/// manifest and ends. Taking a large value apart is slow, and memory that was handed back piece by
+/// piece slows down all that is made later.
+pub fn manifest_leaking_tree(alloc: Global, bytes: &[u8]) -> Result<Manifest, ManifestError>
+    ensures manifest { IfOk result (λ manifest. manifest_of bytes.now ≡ Ok manifest) }
+    ensures fault { (fault : ManifestFault) → result ≡ Err (ManifestError.At fault) → manifest_of bytes.now ≡ Err fault }
+    ensures group_size { IfOk result HasGroupSize }
+    ensures distinct { IfOk result HasDistinctSections }
+{
+    let value = ManuallyDrop::new(tree_of(alloc, bytes)?);
+    root(alloc, &value)
 }

@@ -1,18 +1,19 @@
 //! How a value of the manifest is read, whatever its kind.
 
-ghost use Rattle.std.specs.Prelude.{◌≡◌, [], map, option_map, Result};
+ghost use Rattle.std.specs.Prelude.{◌≡◌, ◌++◌, [], map, option_map, None, Result, Ok};
 ghost use Rattle.std.specs.List.{list_any};
 ghost use Rattle.std.specs.Str.{bytes_eq};
 ghost use Rattle.serde_json.specs.Data.{Data};
 ghost use Rattle.serde_json.specs.View.{view, items_view, members_view};
 ghost use Rattle.link_manifest.specs.declared.fault.ManifestFault.{ManifestFault};
-ghost use Rattle.link_manifest.specs.Reading.{unknown_key, none_unknown, object_of_keys, required, optional, items_read, list_read, Reads};
+ghost use Rattle.link_manifest.specs.Reading.{and_read, unknown_key, none_unknown, object_of_keys, required, optional, or_null, items_read, list_read, Reads};
 
 use crate::fault::{Kind, ManifestError, Problem};
 use crate::path::{at_item, at_key, error_at_key, fault_here};
 use link_names::Seq;
 use serde_json::{Map, Value};
 use std::alloc::Global;
+use std::marker::PhantomData;
 
 /// A kind of value of the manifest.
 pub(crate) trait Readable {
@@ -105,24 +106,37 @@ pub(crate) fn optional<K: Readable>(
     }
 }
 
-/// Reads the items of a list.
-fn items<K: Readable>(alloc: Global, values: &[Value]) -> Result<Seq<K::Read>, ManifestError>
-    ensures { Reads result (items_read K.read 0 (items_view values.now)) }
+/// Reads the items of a list, behind those that stand before them.
+pub(crate) fn items<K: Readable>(
+    alloc: Global,
+    values: &[Value],
+    before: Vec<K::Read>,
+) -> Result<Seq<K::Read>, ManifestError>
+    ensures { Reads result (and_read (items_read K.read 0 (items_view values.now)) (λ items. Ok (before.items ++ items))) }
 {
-    let mut read = Vec::new(alloc);
+    let mut read = before;
+    read.reserve(values.len())?;
     for (place, value) in values.iter().enumerate() {
         read.push(at_item(place, K::read(alloc, value))?)?;
     }
     Ok(Seq::from_vec(read))
 }
 
-/// Reads a list of values of a kind.
-fn list<K: Readable>(alloc: Global, value: &Value) -> Result<Seq<K::Read>, ManifestError>
-    ensures { Reads result (list_read K.read (view value.now)) }
-{
-    match value.as_array() {
-        Some(values) => items::<K>(alloc, values),
-        None => Err(fault_here(alloc, Problem::Expected(Kind::List))),
+/// A list of values of a kind.
+pub(crate) struct ListOf<K> {
+    kind: PhantomData<K>,
+}
+
+impl<K: Readable> Readable for ListOf<K> {
+    type Read = Seq<K::Read>;
+
+    ghost read = { list_read K.read };
+
+    fn read(alloc: Global, value: &Value) -> Result<Seq<K::Read>, ManifestError> {
+        match value.as_array() {
+            Some(values) => items::<K>(alloc, values, Vec::new(alloc)),
+            None => Err(fault_here(alloc, Problem::Expected(Kind::List))),
+        }
     }
 }
 
@@ -134,8 +148,34 @@ pub(crate) fn optional_list<K: Readable>(
 ) -> Result<Seq<K::Read>, ManifestError>
     ensures { Reads result (optional key.now (list_read K.read) [] (view value.now)) }
 {
-    match value.get(key) {
-        Some(found) => at_key(alloc, key, list::<K>(alloc, found)),
-        None => Ok(Seq::new(alloc)),
+    optional::<ListOf<K>>(alloc, value, key, Seq::new(alloc))
+}
+
+/// A value of a kind, or null.
+pub(crate) struct OrNull<K> {
+    kind: PhantomData<K>,
+}
+
+impl<K: Readable> Readable for OrNull<K> {
+    type Read = Option<K::Read>;
+
+    ghost read = { or_null K.read };
+
+    fn read(alloc: Global, value: &Value) -> Result<Option<K::Read>, ManifestError> {
+        if value.is_null() {
+            return Ok(None);
+        }
+        Ok(Some(K::read(alloc, value)?))
     }
+}
+
+/// The value of a key that may be null; one that is left out is null.
+pub(crate) fn nullable<K: Readable>(
+    alloc: Global,
+    value: &Value,
+    key: &str,
+) -> Result<Option<K::Read>, ManifestError>
+    ensures { Reads result (optional key.now (or_null K.read) None (view value.now)) }
+{
+    optional::<OrNull<K>>(alloc, value, key, None)
 }

@@ -1,9 +1,9 @@
 //! The tables of the objects of a manifest that is read.
 
-ghost use Rattle.std.specs.Prelude.{◌≡◌, None, IfOk, IfErr};
+ghost use Rattle.std.specs.Prelude.{◌≡◌, None, Ok, codes, IfOk, IfErr};
 ghost use Rattle.link_input.specs.Checks.{first_fault};
-ghost use Rattle.link_manifest.specs.declared.fault.Step.TheVariants.{Item};
-ghost use Rattle.link_manifest.specs.Manifest.{none_at_fault, objects_checked, tables_checked};
+ghost use Rattle.link_manifest.specs.declared.fault.Step.TheVariants.{Key, Item};
+ghost use Rattle.link_manifest.specs.Checked.{none_at_fault, tables_checked};
 ghost use Rattle.link_manifest.specs.Reading.{and_read, within, IsFaultOf, Reads};
 
 use crate::contents::UncheckedObject;
@@ -54,7 +54,7 @@ pub(crate) fn checked_objects<P: Platform>(
     alloc: Global,
     objects: Seq<UncheckedObject>,
 ) -> Result<Seq<ParsedInputObject<P>>, ManifestError>
-    ensures { Reads result (objects_checked P.HAS_NULL_SYMBOL_ENTRY objects) }
+    ensures { Reads result (and_read (within (Key (codes "objects")) (tables_checked P.HAS_NULL_SYMBOL_ENTRY 0 objects)) (λ _. Ok objects)) }
 {
     at_key(alloc, "objects", checked_tables(alloc, objects.into_vec()))
 }

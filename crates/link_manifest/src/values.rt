@@ -3,10 +3,11 @@
 ghost use Rattle.std.specs.Prelude.{◌≡◌, option_map};
 ghost use Rattle.serde_json.specs.Find.{as_str};
 ghost use Rattle.serde_json.specs.View.{view, members_view};
+ghost use Rattle.link_names.specs.Names.{value_in};
 ghost use Rattle.link_manifest.specs.declared.fault.Kind.TheVariants as kind;
 ghost use Rattle.link_manifest.specs.declared.fault.Problem.TheVariants.{Expected};
 ghost use Rattle.link_manifest.specs.Reading.{read_or, Reads};
-ghost use Rattle.link_manifest.specs.Values.{text_read, hex_text, hex_bytes, bytes_read, bool_read, number_of, number_read, group_size_of, group_size_read, place_of, place_read};
+ghost use Rattle.link_manifest.specs.Values.{text_read, hex_text, hex_bytes, bytes_read, bool_read, number_of, number_read, size_read, group_size_of, group_size_read, place_words, place_of, place_read};
 
 use crate::fault::{Kind, ManifestError, Problem};
 use crate::path::fault_here;
@@ -118,6 +119,22 @@ impl Readable for Number {
     }
 }
 
+/// The size of a symbol: a whole number below 2^64.
+pub(crate) struct Size;
+
+impl Readable for Size {
+    type Read = u64;
+
+    ghost read = { size_read };
+
+    fn read(alloc: Global, value: &Value) -> Result<u64, ManifestError> {
+        match value.as_u64() {
+            Some(size) => Ok(size),
+            None => Err(fault_here(alloc, Problem::Expected(Kind::Number))),
+        }
+    }
+}
+
 /// How many files may be one group.
 pub(crate) struct GroupSize;
 
@@ -148,13 +165,24 @@ impl Readable for GroupSize {
 /// Where a symbol stands.
 pub(crate) struct SymbolPlace;
 
-/// `undefined`, or the number of a section.
+/// The place outside every section that a word stands for.
+fn place_word(word: &str) -> Option<Place>
+    ensures { result ≡ value_in place_words word.now }
+{
+    match word {
+        "undefined" => Some(Place::Undefined),
+        "absolute" => Some(Place::Absolute),
+        "common" => Some(Place::Common),
+        _ => None,
+    }
+}
+
+/// The place that a word stands for, or the number of a section.
 fn place_of(value: &Value) -> Option<Place>
     ensures { result ≡ place_of (as_str (view value.now)) (number_of (view value.now)) }
 {
     match value.as_str() {
-        Some("undefined") => Some(Place::Undefined),
-        Some(_) => None,
+        Some(word) => place_word(word),
         None => Some(Place::Section(number_of(value)?)),
     }
 }

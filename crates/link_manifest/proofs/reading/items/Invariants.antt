@@ -7,4 +7,4 @@ use Rattle.link_manifest.proofs.reading.items.Given as goal
 abbrev pub invariant-loop-place : goal.invariant-loop-place
 invariant-loop-place g l =
     and_read (items_read g.K.Readable.read l.place (items_view (drop l.place l.values))) (λ others. Ok (l.read.items ++ others))
-    ≡ items_read g.K.Readable.read 0 (items_view l.values)
+    ≡ and_read (items_read g.K.Readable.read 0 (items_view l.values)) (λ others. Ok (l.fn.before.items ++ others))

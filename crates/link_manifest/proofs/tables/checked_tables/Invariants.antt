@@ -1,5 +1,5 @@
 use Rattle.std.proofs.Common.{◌≡◌, ◌++◌, Ok}
-use Rattle.link_manifest.specs.Manifest.{tables_checked}
+use Rattle.link_manifest.specs.Checked.{tables_checked}
 use Rattle.link_manifest.specs.Reading.{and_read}
 use Rattle.link_manifest.proofs.tables.checked_tables.Given as goal
 

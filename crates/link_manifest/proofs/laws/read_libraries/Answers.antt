@@ -2,8 +2,8 @@ use Rattle.std.proofs.Common.{refl}
 use Rattle.std.specs.Str.{is_utf8, chars}
 use Rattle.hex.proofs.OnLiterals.{hex_on_literals}
 use Rattle.serde_json.proofs.OnLiterals.{serde_json_on_literals}
-use Rattle.link_manifest.proofs.laws.read_manifests.Goals as goal
+use Rattle.link_manifest.proofs.laws.read_libraries.Goals as goal
 
 pub returns : goal.returns
 unfolding serde_json_on_literals hex_on_literals is_utf8 chars
-returns c = record { empty = refl; symbol = refl; hex_name = refl; group_size = refl }
+returns c = record { texts = refl; export_list = refl; libraries = refl }

@@ -2,8 +2,8 @@ use Rattle.std.proofs.Common.{refl}
 use Rattle.std.specs.Str.{is_utf8, chars}
 use Rattle.hex.proofs.OnLiterals.{hex_on_literals}
 use Rattle.serde_json.proofs.OnLiterals.{serde_json_on_literals}
-use Rattle.link_manifest.proofs.laws.refused_manifests.Goals as goal
+use Rattle.link_manifest.proofs.laws.refused_wholes.Goals as goal
 
 pub returns : goal.returns
 unfolding serde_json_on_literals hex_on_literals is_utf8 chars
-returns c = record { unknown = refl; none_a_group = refl; too_many_a_group = refl; odd_digits = refl; second_key = refl; table = refl }
+returns c = record { walk = refl; repeated = refl; table = refl }

@@ -1,0 +1,9 @@
+use Rattle.std.proofs.Common.{refl}
+use Rattle.std.specs.Str.{is_utf8, chars}
+use Rattle.hex.proofs.OnLiterals.{hex_on_literals}
+use Rattle.serde_json.proofs.OnLiterals.{serde_json_on_literals}
+use Rattle.link_manifest.proofs.laws.refused_values.Goals as goal
+
+pub returns : goal.returns
+unfolding serde_json_on_literals hex_on_literals is_utf8 chars
+returns c = record { unknown = refl; none_a_group = refl; too_many_a_group = refl; odd_digits = refl; second_key = refl; no_word = refl; no_place = refl; no_null = refl }
