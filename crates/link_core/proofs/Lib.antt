@@ -1,7 +1,4 @@
-pub mod Noting
-pub mod EdgesIn
-pub mod InRange
-pub mod LoadedFrom
-pub mod Rivaling
-pub mod EachFrom
-pub mod Sorting
+pub mod Refusing
+pub mod FirstStage
+pub mod Passing
+pub mod Answering

@@ -1,3 +1,2 @@
-pub mod Found
-pub mod Edges
+pub mod Given
 pub mod Steps

@@ -1,41 +1,105 @@
--- One step of each table, from what was looked up.
-use Rattle.std.specs.Prelude.{ℕ, ◌&&◌, List, Bool, Option, None, if◌then◌else◌, option_map, option_and_then, unwrap_or}
-use Rattle.std.specs.Int.RustNames.{bit_or}
-use Rattle.std.specs.Option.{option_or}
-use Rattle.link_input.specs.ObjectFile.{ObjectFile}
-use Rattle.link_rules.specs.declared.symbol.Symbol.{Symbol}
-use Rattle.link_rules.specs.Places.{Bytes, is_number}
-use Rattle.link_rules.specs.Plain.World.{is_definition, is_reference}
-use Rattle.link_rules.specs.Plain.Lists.{is_listed}
-use Rattle.link_rules.specs.Plain.Loading.{object_of}
-use Rattle.link_rules.specs.Plain.Rivals.{duplicate_line, file_name}
-use Rattle.link_flags.specs.FlagBits as flag
-use Rattle.link_rules.specs.Flags.{flags_if}
-use Rattle.link_rules.specs.Plain.Flags.{opening_flags}
-use Rattle.link_core.specs.declared.names.LoadedDefinitions.{LoadedDefinitions}
+-- How far a link of one batch has come.
+use Rattle.std.specs.Prelude.{ℕ, ◌≡◌, ◌⊎◌, ◌+◌, ◌*◌, ◌<◌, ◌^◌, ◌&&◌, List, [], ◌∷◌, Bool, false, filter, is_none, is_some, length, map, not, None, Ok, Option}
+use Rattle.link_flags.specs.declared.value_flags.RawFlags.{RawFlags}
+use Rattle.link_discarding.specs.Indexed.{AreGroupsOf}
+use Rattle.link_files.specs.Inputs.{objects_in}
+use Rattle.link_rules.specs.declared.refusal.LinkError.{LinkError}
+use Rattle.link_rules.specs.declared.refusal.LinkError.TheVariants.{Memory}
+use Rattle.link_rules.specs.Answer.{BatchesEnd, IsRefused}
+use Rattle.link_rules.specs.FinalFlags.{final_flags}
+use Rattle.link_rules.specs.Marking.{flags_before, marked_flags}
+use Rattle.link_rules.specs.Names.{first_definition}
+use Rattle.link_rules.specs.Places.{Bytes, each_from}
+use Rattle.link_rules.specs.Refusals.{duplicate_lines, first_cause, limit_refusal, linker_script_cause, text_refusal, unless_none}
+use Rattle.link_rules.specs.Rivals.{reference_table, versioned_table}
+use Rattle.link_rules.specs.Rules.{PlatformRules, rules_of, taken_text}
+use Rattle.link_rules.specs.Selection.{Selection, selection_of}
+use Rattle.link_rules.specs.Undefined.{boundary_makers, final_table, is_boundary_maker, is_last_alike, left_undefined, resolved}
+use Rattle.link_rules.specs.Visibility.{narrowed_symbol}
+use Rattle.link_rules.specs.World.{World, first_stage}
+use Rattle.link_loader.specs.Holds.{AreRulesOf, HoldsTexts}
+use Rattle.link_mapping.specs.Mapped.{mapping_of}
+use Rattle.link_db.specs.Database.{Database, HasTable, symbol_names}
+use Rattle.link_stage.specs.AtStage.{IsAtStage}
+use Rattle.link_resolve.specs.Known.{IsListed, IsSelection, Known}
+use Rattle.link_resolve.specs.Resolving.{Resolving}
+use Rattle.link_resolve.specs.Settled.{IsEnded, IsSettled}
 
--- the first two definitions, where there are two
-abbrev pub two_in : Option LoadedDefinitions → Option (ℕ × ℕ)
-two_in known = option_and_then (λ (d : LoadedDefinitions). option_map (λ t. (d.first, t)) d.second) known
+-- ---- what is so of any database on the way
 
-abbrev pub first_in : Option LoadedDefinitions → Option ℕ
-first_in known = option_map (λ (d : LoadedDefinitions). d.first) known
+-- the table and the flags have an entry for each symbol, and there is room for a group and for the symbols of custom sections
+pub record HasRoom {P : Type 0} (db : Database P) (words : List RawFlags) : Type 0 where
+  pub table : HasTable db
+  pub flags : length words ≡ length (symbol_names db)
+  pub groups : length db.mapping.files.groups < 2 ^ 24
+  pub fits : length (symbol_names db) + 2 * length db.options.custom_sections < 2 ^ 32
 
--- the line of a name that two loaded objects define, from its first definition and the first two in loaded objects
-abbrev pub duplicate_from : List ObjectFile → List Symbol → Option ℕ → Option LoadedDefinitions → ℕ → Symbol → Option Bytes
-duplicate_from objects symbols first known s x =
-    option_map (λ p. duplicate_line x.name (file_name objects (object_of symbols p.0)) (file_name objects (object_of symbols p.1)))
-    (if is_listed x && is_number first s then two_in known else None)
+-- ---- what is so of a world's link
 
--- where a symbol points, from the first definition of its name, the first in a loaded object, its target, and the last undefined
--- reference to its name
-abbrev pub entry_from : Option ℕ → Option LoadedDefinitions → Option ℕ → Option ℕ → Bool → ℕ → Symbol → ℕ
-entry_from first known target canonical is_loaded s x =
-    if is_listed x then unwrap_or (option_or (first_in known) first) s
-    else (if is_definition x then s
-    else (if is_reference x && is_loaded then unwrap_or (option_or target canonical) 0 else 0))
+-- a world with one batch, by the rules of its texts
+pub record HasOneBatch (platform : PlatformRules) (demangle : Bytes → Bytes) (w : World) : Type 0 where
+  pub later : w.later ≡ []
+  pub rules : w.rules ≡ rules_of platform demangle w.options w.texts w.first.scripts
 
--- the flags of a symbol, which may be referenced, or the last undefined reference to its name
-abbrev pub flags_from : Bool → Bool → Symbol → ℕ
-flags_from is_referenced is_canonical x =
-    bit_or (opening_flags x) (bit_or (flags_if is_referenced flag.has_non_ir_ref) (flags_if is_canonical flag.non_interposable))
+-- why it is refused once the texts of its options are read and before any object is loaded: but for the want of an object
+abbrev pub inputs_refusal : World → Option LinkError
+inputs_refusal w = first_cause (linker_script_cause false (is_some (taken_text w.texts [])) 0 w.first.scripts ∷ limit_refusal (first_stage w) ∷ [])
+
+-- it is refused, or memory runs out
+abbrev pub IsRefusedWith : World → LinkError → Type 0
+IsRefusedWith w error = IsRefused w error ⊎ (error ≡ Memory)
+
+-- the texts of the options were read, and no file is added
+pub record IsNew {P : Type 0} (platform : PlatformRules) (w : World) (db : Database P) : Type 0 where
+  pub texts : text_refusal w ≡ None
+  pub holds : HoldsTexts platform w.options w.texts [] db.rules
+  pub options : db.options ≡ w.options
+
+-- the files are added, and names are wrapped
+pub record IsOpened {P : Type 0} (platform : PlatformRules) (demangle : Bytes → Bytes) (w : World) (db : Database P) (numbers : List ℕ) : Type 0 where
+  pub one : HasOneBatch platform demangle w
+  pub texts : text_refusal w ≡ None
+  pub inputs : inputs_refusal w ≡ None
+  pub stage : IsAtStage platform demangle db (first_stage w)
+  pub flags : numbers ≡ each_from (flags_before (first_stage w)) 0 (first_stage w).symbols
+
+-- what is selected where these are known
+abbrev pub selected : World → Known → Selection
+selected w known = selection_of (first_stage w) known.marks
+
+-- the link ends with this selection, unless it is refused behind that
+pub record Selects (w : World) (l : Selection) : Type 0 where
+  pub texts : text_refusal w ≡ None
+  pub ends : BatchesEnd w (Ok l)
+
+-- the objects that count are loaded
+pub record IsLoadedWith {P : Type 0} (platform : PlatformRules) (demangle : Bytes → Bytes) (w : World) (db : Database P) (numbers : List ℕ) (r : Resolving) : Type 0 where
+  pub selects : Selects w (selected w r.known)
+  pub selection : IsSelection platform demangle db r.known (selected w r.known)
+  pub groups : AreGroupsOf r.known.marks (first_stage w).objects r.groups
+  pub table : db.table ≡ reference_table (selected w r.known)
+  pub flags : numbers ≡ marked_flags (selected w r.known)
+
+-- the references that stand for undefined names, where this is selected
+abbrev pub undefined_ids : Selection → List ℕ
+undefined_ids l = map (λ u. u.0) (filter (λ u. is_last_alike (left_undefined l) u && not (is_boundary_maker l.stage (left_undefined l) u)) (left_undefined l))
+
+-- rivals are settled
+pub record IsSettledWith {P : Type 0} (platform : PlatformRules) (demangle : Bytes → Bytes) (w : World) (db : Database P) (numbers : List ℕ) (r : Resolving) : Type 0 where
+  pub selects : Selects w (selected w r.known)
+  pub duplicates : unless_none (duplicate_lines (selected w r.known)) ≡ None
+  pub settled : IsSettled db r.known (selected w r.known)
+  pub rules : AreRulesOf platform demangle db.rules w.rules
+  pub groups : AreGroupsOf r.known.marks (first_stage w).objects r.groups
+  pub table : db.table ≡ versioned_table (selected w r.known)
+  pub flags : numbers ≡ each_from (narrowed_symbol (first_stage w) (marked_flags (selected w r.known))) 0 (first_stage w).symbols
+
+-- what stands for undefined references is found, and all symbols have their flags
+pub record IsEndedWith {P : Type 0} (platform : PlatformRules) (demangle : Bytes → Bytes) (w : World) (db : Database P) (numbers : List ℕ) (r : Resolving) : Type 0 where
+  pub selects : Selects w (selected w r.known)
+  pub duplicates : unless_none (duplicate_lines (selected w r.known)) ≡ None
+  pub ended : IsEnded platform demangle db r.known (selected w r.known)
+  pub objects : (first_stage w).objects ≡ objects_in db.mapping.files.groups
+  pub groups : AreGroupsOf r.known.marks (first_stage w).objects r.groups
+  pub added : db.mapping.files.added ≡ map (λ m. m.1.name) (boundary_makers (first_stage w) (left_undefined (selected w r.known)))
+  pub flags : numbers ≡ final_flags (resolved (selected w r.known))

@@ -1,15 +1,9 @@
 //! The link itself: which objects are loaded, and what each symbol means.
 #![tactic(auto)]
 
-mod answer;
-mod flags;
+mod ending;
 mod link;
-mod loading;
-mod names;
-mod rivals;
-mod symbols;
-mod table;
-#[cfg(test)]
-mod tests;
+mod opening;
+mod resolving;
 
 pub use link::link_symbols;

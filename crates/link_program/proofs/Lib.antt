@@ -2,4 +2,3 @@ pub mod Numerals
 pub mod TooLong
 pub mod OneText
 pub mod OfWorld
-pub mod PlainManifest

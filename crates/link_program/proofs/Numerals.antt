@@ -1,8 +1,8 @@
 -- Words that are numbers.
-use Rattle.std.proofs.Common.{◌≡◌, ◌≢◌, ℕ, ◌<◌, ◌^◌, List, [], ◌∷◌, length, get_or, Result, Ok, Err, sym, ◌∙◌, subst, ap, arith}
+use Rattle.std.proofs.Common.{◌≡◌, ◌≢◌, ℕ, ◌<◌, ◌≤◌, ◌^◌, List, [], ◌∷◌, length, get_or, Result, Ok, Err, sym, ◌∙◌, subst, ap, arith}
 use Rattle.std.specs.Prelude.{decimal}
 use Rattle.std.specs.Str.Parse.{IsNumeral, digits_value, ParsesUnsigned, without_leading_plus}
-use Rattle.std.proofs.lemmas.Fmt.{parse-decimal, first_decimal, decimal-digits_value}
+use Rattle.std.proofs.lemmas.Fmt.{parse-decimal, first_decimal, decimal-digits_value, decimal_injective}
 use Rattle.std.proofs.lemmas.Str.Parse.{numerals_by_value, tells_digits, without_leading_plus_none}
 
 -- a number is written without a sign and without a zero in front
@@ -36,3 +36,16 @@ two-words [] a b x y two first second is_x is_y = absurd (omega arith)
 two-words (v ∷ []) a b x y two first second is_x is_y = absurd (omega arith)
 two-words (v ∷ w ∷ []) a b x y two first second is_x is_y = cc
 two-words (v ∷ w ∷ u ∷ us) a b x y two first second is_x is_y = absurd (omega arith)
+
+-- three words
+pub three-words : (words : List (List ℕ)) (a b c x y z : List ℕ) → length words ≡ 3 → a ≡ get_or words 0 a → b ≡ get_or words 1 b → c ≡ get_or words 2 c → a ≡ x → b ≡ y → c ≡ z
+    → words ≡ x ∷ y ∷ z ∷ []
+three-words [] a b c x y z three first second third is_x is_y is_z = absurd (omega arith)
+three-words (u ∷ []) a b c x y z three first second third is_x is_y is_z = absurd (omega arith)
+three-words (u ∷ v ∷ []) a b c x y z three first second third is_x is_y is_z = absurd (omega arith)
+three-words (u ∷ v ∷ w ∷ []) a b c x y z three first second third is_x is_y is_z = cc
+three-words (u ∷ v ∷ w ∷ t ∷ ts) a b c x y z three first second third is_x is_y is_z = absurd (omega arith)
+
+-- numbers that are written alike are the same
+pub decimal-one : (m n : ℕ) → m ≤ 100000 → n ≤ 100000 → decimal m ≡ decimal n → m ≡ n
+decimal-one m n small small' same = decimal_injective m n (omega (arith, small)) (omega (arith, small')) same

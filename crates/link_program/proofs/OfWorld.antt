@@ -1,41 +1,31 @@
--- The text of a link of a manifest's objects is that of its bytes, of the source that had them left, and of the words.
-use Rattle.std.proofs.Common.{◌≡◌, List, Option, Result, Ok, Err, IfOk, sym, subst, ◌∙◌, Some, None}
+-- The text of a link of a world is that of the bytes that describe it, of the source that had them left, and of the words.
+use Rattle.std.proofs.Common.{◌≡◌, ◌≢◌, ◌⊎◌, ◌≤◌, ℕ, List, Option, Result, Ok, Err, IfOk, inl, inr, refl, sym, subst, ◌∙◌, Some, None}
+use Rattle.link_bulk.proofs.Linking.{not-refused}
+use Rattle.link_bulk.specs.Bulk.{bulk_objects}
+use Rattle.link_bulk.specs.World.{bulk_world}
 use Rattle.std.proofs.lemmas.List.{append-nil}
 use Rattle.link_streams.specs.Streams.{Gives, IsAtEnd}
 use Rattle.std.specs.Prelude.{IfSome}
+use Rattle.link_rules.specs.declared.linked.Linked.{Linked as Answer}
+use Rattle.link_rules.specs.declared.refusal.LinkError.{LinkError}
+use Rattle.link_rules.specs.declared.refusal.LinkError.TheVariants as refusal
+use Rattle.link_rules.specs.Answer.{IsRefused}
 use Rattle.link_rules.specs.Places.{Bytes}
-use Rattle.link_rules.specs.Rules.{PlatformRules}
-use Rattle.link_rules.specs.World.{world_of}
-use Rattle.link_rules.specs.Answer.{IsReport, IsRefusalText}
-use Rattle.link_rules.specs.Plain.Report as plain
-use Rattle.link_rules.proofs.PlainAnswer.{linked-plain, refused-plain}
+use Rattle.link_rules.specs.Report.{refusal_text}
+use Rattle.link_rules.specs.World.{World}
 use Rattle.link_manifest.specs.declared.manifest.Manifest.{Manifest as Described}
 use Rattle.link_manifest.specs.Manifest.{manifest_of}
 use Rattle.link_program.specs.declared.status.Status.{Status}
 use Rattle.link_program.specs.declared.status.Status.TheVariants.{Linked, Refused, Usage, Manifest, ReadFault, WriteFault, Memory}
-use Rattle.link_program.specs.declared.command.Command.{Command}
-use Rattle.link_program.specs.declared.command.Command.TheVariants.{Link}
-use Rattle.link_program.specs.Grammar.{IsCommand, IsLink}
-use Rattle.link_program.specs.Outcome.{given_of, world_of_manifest, IsTextOf, IsLinkText, IsTextFor}
-use Rattle.link_program.specs.PlainText.{IsPlainText}
-use Rattle.link_program.proofs.PlainManifest.{IsPlainElf, manifest-plain}
+use Rattle.link_program.specs.declared.run.Told.TheVariants.{Report, Summary}
+use Rattle.link_program.specs.Grammar.{IsBulk, IsLink}
+use Rattle.link_program.specs.Outcome.{error_line, given_of, told_text, world_of_manifest, IsLinkText, IsSummary, IsTextFor, IsTextOf, IsWorldText}
 
--- the report on a link of the plain objects of a manifest is that on a link of its world
-report-of : (m : Described) (text : Bytes) → IsPlainElf m → plain.IsReport (given_of m).first.objects text → IsReport (world_of_manifest m) text
-report-of m text elf (linked, done, shown) =
-    subst (λ (p : PlatformRules). IsReport (world_of p (λ name. name) (given_of m)) text) (sym elf.like_elf)
-    (linked, linked-plain (λ name. name) (given_of m) linked elf.plain done, shown)
-
--- and so the text of its refusal
-refusal-of : (m : Described) (text : Bytes) → IsPlainElf m → plain.IsRefusalText (given_of m).first.objects text → IsRefusalText (world_of_manifest m) text
-refusal-of m text elf (error, refused, told) =
-    subst (λ (p : PlatformRules). IsRefusalText (world_of p (λ name. name) (given_of m)) text) (sym elf.like_elf)
-    (error, refused-plain (λ name. name) (given_of m) error elf.plain refused, told)
-
--- what holds of the objects that some bytes describe, holds of the bytes
-pub text-of_link : (bytes : Bytes) (m : Described) (s : Status) (text : Bytes) → manifest_of bytes ≡ Ok m → IsPlainText (given_of m).first.objects s text → IsTextOf bytes s text
-text-of_link bytes m Linked text is held = (m, is, report-of m text (manifest-plain bytes m is) held)
-text-of_link bytes m Refused text is (cause, told, line) = (m, cause, is, refusal-of m cause (manifest-plain bytes m is) told, line)
+-- what is reported of a link of what some bytes describe, is so of the bytes
+pub text-of_link : (bytes : Bytes) (m : Described) (s : Status) (text : Bytes) → manifest_of bytes ≡ Ok m
+    → IsWorldText (world_of_manifest m) (told_text Report (given_of m).first.objects) s text → IsTextOf bytes s text
+text-of_link bytes m Linked text is held = (m, is, held)
+text-of_link bytes m Refused text is (cause, told, line) = (m, cause, is, told, line)
 text-of_link bytes m Usage text is held = absurd held
 text-of_link bytes m Manifest text is held = absurd held
 text-of_link bytes m ReadFault text is held = absurd held
@@ -54,7 +44,7 @@ link-text left bytes Memory text whole held = absurd held
 
 -- what holds of a link, holds of the words that ask for it
 pub words-text : (words : List Bytes) (left : Option Bytes) (s : Status) (text : Bytes) → IsLink words → IsLinkText left s text → IsTextFor words left s text
-words-text words left Linked text link held = (link, held)
+words-text words left Linked text link held = inl (link, held)
 words-text words left Refused text link held = (link, held)
 words-text words left Manifest text link held = (link, held)
 words-text words left ReadFault text link held = (link, held)
@@ -62,15 +52,37 @@ words-text words left Usage text link held = absurd held
 words-text words left WriteFault text link held = absurd held
 words-text words left Memory text link held = absurd held
 
+-- so does the summary of a made-up link
+pub bulk-text : (words : List Bytes) (left : Option Bytes) (members : ℕ) (s : Status) (text : Bytes) → IsBulk words members → (s ≡ Linked) × IsSummary members text → IsTextFor words left s text
+bulk-text words left members s text bulk (ends, held) = subst (λ t. IsTextFor words left t text) (sym ends) (inr (members, bulk, held))
+
+-- a made-up link is not refused, so that it ends with its summary
+pub summary-of : (members : ℕ) (s : Status) (text : Bytes) → 1 ≤ members → members ≤ 100000
+    → IsWorldText (bulk_world members) (told_text (Summary members) (bulk_objects members)) s text → (s ≡ Linked) × IsSummary members text
+summary-of members Linked text some few held = (refl, held)
+summary-of members Refused text some few (cause, (error, refused, told), line) = absurd (not-refused members error some few refused)
+summary-of members Usage text some few held = absurd held
+summary-of members Manifest text some few held = absurd held
+summary-of members ReadFault text some few held = absurd held
+summary-of members WriteFault text some few held = absurd held
+summary-of members Memory text some few held = absurd held
+
+-- a refused link ends with the text of its cause
+pub refused-text : (w : World) (tell : Answer → Bytes) (e : LinkError) (s : Status) (text : Bytes) → IsRefused w e ⊎ (e ≡ refusal.Memory) → e ≢ refusal.Memory → s ≡ Refused
+    → text ≡ error_line (refusal_text e) → IsWorldText w tell s text
+refused-text w tell e s text (inl refused) cause ends line = subst (λ t. IsWorldText w tell t text) (sym ends) (refusal_text e, (e, refused, refl), line)
+refused-text w tell e s text (inr memory) cause ends line = absurd (cause memory)
+
+-- what follows from three facts of an answer holds of it
+pub ok-through : {X E : Type 0} (r : Result X E) (P Q R S : X → Type 0) → ((x : X) → P x → Q x → R x → S x) → IfOk r P → IfOk r Q → IfOk r R → IfOk r S
+ok-through (Ok x) P Q R S through p q r = through x p q r
+ok-through (Err e) P Q R S through p q r = tt
+
 -- what was given up to the end is all that there was
 pub all-given : (before after : Option Bytes) (got : Bytes) → Gives before after got → IsAtEnd after → IfSome before (λ all. all ≡ got)
 all-given None after got gives ended = tt
 all-given (Some all) None got gives ended = absurd gives
 all-given (Some all) (Some rest) got gives ended = rw ended at gives ∙ append-nil got
-
--- words that write a command ask for a link
-pub is-link : (words : List Bytes) (command : Command) → IsCommand words command → IsLink words
-is-link words (Link workers) is = (workers, is)
 
 -- what holds of an answer also holds in another way
 pub ok-into : {A E : Type 0} (r : Result A E) (P Q : A → Type 0) → ((x : A) → P x → Q x) → IfOk r P → IfOk r Q

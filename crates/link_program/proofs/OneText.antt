@@ -1,17 +1,23 @@
 -- What is due is written, unless a fault comes between or memory runs out.
-use Rattle.std.proofs.Common.{◌≡◌, ◌⊎◌, inl, inr, List, ◌++◌, Option, Some, None, IsSome, Result, Ok, Err, codes, refl, sym, ◌∙◌, subst, ap}
+use Rattle.std.proofs.Common.{◌≡◌, ◌⊎◌, ℕ, inl, inr, List, ◌++◌, Option, Some, None, IsSome, Result, Ok, Err, codes, refl, sym, ◌∙◌, subst, ap}
 use Rattle.link_rules.specs.Places.{Bytes}
+use Rattle.std.specs.Prelude.{decimal}
+use Rattle.link_bulk.specs.Bulk.{bulk_objects}
+use Rattle.link_bulk.specs.World.{bulk_world}
+use Rattle.link_rules.specs.declared.linked.Linked.{Linked as Answer}
 use Rattle.link_rules.specs.Answer.{IsRefused, IsReport, IsRefusalText}
-use Rattle.link_rules.proofs.WorldOnce.{one-report, one-refusal_text, not-both}
+use Rattle.link_rules.proofs.WorldOnce.{one-linked, one-report, one-refusal_text, not-both}
 use Rattle.link_manifest.specs.declared.fault.ManifestFault.{ManifestFault}
 use Rattle.link_manifest.specs.declared.manifest.Manifest.{Manifest as Described}
 use Rattle.link_manifest.specs.FaultText.{fault_text}
 use Rattle.link_manifest.specs.Manifest.{manifest_of}
-use Rattle.link_program.specs.declared.command.Command.TheVariants.{Link}
+use Rattle.link_program.specs.declared.command.Command.TheVariants.{Link, Bulk}
 use Rattle.link_program.specs.declared.status.Status.{Status}
 use Rattle.link_program.specs.declared.status.Status.TheVariants.{Linked, Refused, Usage, Manifest, ReadFault, WriteFault, Memory}
-use Rattle.link_program.specs.Grammar.{IsLink, IsNoCommand}
-use Rattle.link_program.specs.Outcome.{error_line, world_of_manifest, IsTextOf, IsWholeText, IsTextFor, IsDue}
+use Rattle.link_program.specs.Grammar.{IsBulk, IsLink, IsNoCommand}
+use Rattle.link_program.specs.Outcome.{error_line, world_of_manifest, IsDue, IsSummary, IsSummaryFor, IsTextFor, IsTextOf, IsWholeText}
+use Rattle.link_report.specs.Summary.{summary_text}
+use Rattle.link_program.proofs.Numerals.{decimal-one}
 
 ok-inj : {X E : Type 0} (r : Result X E) (x y : X) → r ≡ Ok x → r ≡ Ok y → x ≡ y
 ok-inj r x y is is' = cc
@@ -82,11 +88,35 @@ whole-text None s t a b tells held held' = absurd (cc)
 whole-text (Some all) s t a b tells (bytes, are, held) (bytes', are', held') =
     one-text all s t a b (subst (λ (bs : Bytes). IsTextOf bs s a) (sym are) held) (subst (λ (bs : Bytes). IsTextOf bs t b) (sym are') held')
 
+-- ---- links of made-up worlds
+
+-- the words write one number of members
+members-one : (words : List Bytes) (m n : ℕ) → IsBulk words m → IsBulk words n → m ≡ n
+members-one words m n (workers, (is, some)) (workers', (is', some')) =
+    let same : decimal m ≡ decimal n = cc in
+    decimal-one m n some.0.1 some'.0.1 same
+
+-- a link of a made-up world has one summary
+summary-one : (words : List Bytes) (a b : Bytes) → IsSummaryFor words a → IsSummaryFor words b → a ≡ b
+summary-one words a b (m, is, (linked, done, shown)) (n, is', held') =
+    let same : n ≡ m = members-one words n m is' is in
+    let (linked', done', shown') = subst (λ k. IsSummary k b) same held' in
+    shown ∙ (ap (λ (l : Answer). summary_text m (bulk_objects m) l) (one-linked (bulk_world m) linked linked' done done') ∙ sym shown')
+
+-- ---- words
+
 link-is_command : (words : List Bytes) → IsLink words → IsNoCommand words → ⊥
 link-is_command words (workers, is) none = none (Link workers) is
 
+bulk-is_command : (words : List Bytes) (n : ℕ) → IsBulk words n → IsNoCommand words → ⊥
+bulk-is_command words n (workers, is) none = none (Bulk n workers) is
+
+link-not_bulk : (words : List Bytes) (n : ℕ) → IsLink words → IsBulk words n → ⊥
+link-not_bulk words n (workers, is) (workers', is') = let same = is.0 in let same' = is'.0 in cc
+
 due-whole : (words : List Bytes) (left : Option Bytes) (s t : Status) (a b : Bytes) → IsDue words left s a → IsLink words → IsWholeText left t b → (t ≡ s) × (b ≡ a)
-due-whole words left Linked t a b due link held = whole-text left t Linked b a due.0 held due.1.1
+due-whole words left Linked t a b (inl due) link held = whole-text left t Linked b a due.0 held due.2
+due-whole words left Linked t a b (inr bulk) link held = absurd (link-not_bulk words bulk.0 link bulk.1)
 due-whole words left Refused t a b due link held = whole-text left t Refused b a due.0 held due.1.1
 due-whole words left Manifest t a b due link held = whole-text left t Manifest b a due.0 held due.1.1
 due-whole words left Usage t a b due link held = absurd (link-is_command words link due.0)
@@ -94,9 +124,20 @@ due-whole words left ReadFault t a b due link held = absurd due
 due-whole words left WriteFault t a b due link held = absurd due
 due-whole words left Memory t a b due link held = absurd due
 
+due-bulk : (words : List Bytes) (left : Option Bytes) (s : Status) (a b : Bytes) → IsDue words left s a → IsSummaryFor words b → (Linked ≡ s) × (b ≡ a)
+due-bulk words left Linked a b (inl due) held = absurd (link-not_bulk words held.0 due.1 held.1)
+due-bulk words left Linked a b (inr bulk) held = (refl, summary-one words b a held bulk)
+due-bulk words left Refused a b due held = absurd (link-not_bulk words held.0 due.1.0 held.1)
+due-bulk words left Manifest a b due held = absurd (link-not_bulk words held.0 due.1.0 held.1)
+due-bulk words left Usage a b due held = absurd (bulk-is_command words held.0 held.1 due.0)
+due-bulk words left ReadFault a b due held = absurd due
+due-bulk words left WriteFault a b due held = absurd due
+due-bulk words left Memory a b due held = absurd due
+
 due-usage : (words : List Bytes) (left : Option Bytes) (s : Status) (a b : Bytes) → IsDue words left s a → IsTextFor words left Usage b → (Usage ≡ s) × (b ≡ a)
 due-usage words left Usage a b due held = (refl, held.1 ∙ sym due.1)
-due-usage words left Linked a b due held = absurd (link-is_command words due.1.0 held.0)
+due-usage words left Linked a b (inl due) held = absurd (link-is_command words due.1 held.0)
+due-usage words left Linked a b (inr bulk) held = absurd (bulk-is_command words bulk.0 bulk.1 held.0)
 due-usage words left Refused a b due held = absurd (link-is_command words due.1.0 held.0)
 due-usage words left Manifest a b due held = absurd (link-is_command words due.1.0 held.0)
 due-usage words left ReadFault a b due held = absurd due
@@ -106,7 +147,8 @@ due-usage words left Memory a b due held = absurd due
 -- where no fault comes between, what is due or want of memory is left
 pub due-or_memory : (words : List Bytes) (left : Option Bytes) (s t : Status) (a b : Bytes) → IsDue words left s a → (t ≡ ReadFault → ⊥)
     → IsTextFor words left t b → ((t ≡ s) × (b ≡ a)) ⊎ (t ≡ Memory)
-due-or_memory words left s Linked a b due no_fault held = inl (due-whole words left s Linked a b due held.0 held.1)
+due-or_memory words left s Linked a b due no_fault (inl held) = inl (due-whole words left s Linked a b due held.0 held.1)
+due-or_memory words left s Linked a b due no_fault (inr bulk) = inl (due-bulk words left s a b due bulk)
 due-or_memory words left s Refused a b due no_fault held = inl (due-whole words left s Refused a b due held.0 held.1)
 due-or_memory words left s Manifest a b due no_fault held = inl (due-whole words left s Manifest a b due held.0 held.1)
 due-or_memory words left s Usage a b due no_fault held = inl (due-usage words left s a b due held)

@@ -1,18 +1,26 @@
 -- What a command writes, by how it ends.
-use Rattle.std.specs.Prelude.{◌≡◌, ℕ, List, [], ◌++◌, Option, IsSome, IfSome, Ok, Err, codes}
-use Rattle.link_input.specs.InputFiles.{batch_of}
+use Rattle.std.specs.Prelude.{◌≡◌, ◌⊎◌, ℕ, List, [], ◌++◌, Option, IsSome, IfSome, Ok, Err, codes}
+use Rattle.link_bulk.specs.Bulk.{bulk_objects}
+use Rattle.link_bulk.specs.World.{bulk_world}
+use Rattle.link_core.specs.Given.{given_by}
 use Rattle.link_rules.specs.Places.{Bytes}
+use Rattle.link_input.specs.ObjectFile.{ObjectFile}
+use Rattle.link_rules.specs.Report.{report_text}
 use Rattle.link_rules.specs.World.{Given, World, world_of}
 use Rattle.link_rules.specs.Rules.{PlatformRules, elf_like, mach_like}
-use Rattle.link_rules.specs.Answer.{IsReport, IsRefusalText}
+use Rattle.link_rules.specs.declared.linked.Linked.{Linked as Answer}
+use Rattle.link_rules.specs.Answer.{IsLinked, IsReport, IsRefusalText}
 use Rattle.link_manifest.specs.declared.fault.ManifestFault.{ManifestFault}
 use Rattle.link_manifest.specs.declared.manifest.Manifest.{Manifest as Described}
 use Rattle.link_manifest.specs.declared.manifest.Manifest.TheVariants.{Elf, Mach}
 use Rattle.link_manifest.specs.FaultText.{fault_text}
 use Rattle.link_manifest.specs.Manifest.{manifest_of}
+use Rattle.link_report.specs.Summary.{summary_text}
+use Rattle.link_program.specs.declared.run.Told.{Told}
+use Rattle.link_program.specs.declared.run.Told.TheVariants.{Report, Summary}
 use Rattle.link_program.specs.declared.status.Status.{Status}
 use Rattle.link_program.specs.declared.status.Status.TheVariants.{Linked, Refused, Usage, Manifest, ReadFault, WriteFault, Memory}
-use Rattle.link_program.specs.Grammar.{IsLink, IsNoCommand}
+use Rattle.link_program.specs.Grammar.{IsBulk, IsLink, IsNoCommand}
 
 -- the number that the program ends with
 abbrev pub status_number : Status → ℕ
@@ -30,8 +38,8 @@ error_line what = codes "error: " ++ what ++ codes "\n"
 
 -- what a manifest gives, whatever its platform: one batch
 abbrev pub given_of : Described → Given
-given_of (Elf world) = record { first = batch_of world.inputs; later = []; options = world.options; texts = world.scripts }
-given_of (Mach world) = record { first = batch_of world.inputs; later = []; options = world.options; texts = world.scripts }
+given_of (Elf world) = given_by world.inputs world.options world.scripts
+given_of (Mach world) = given_by world.inputs world.options world.scripts
 
 -- the rules of its platform
 abbrev pub platform_of : Described → PlatformRules
@@ -54,6 +62,29 @@ IsTextOf bytes ReadFault text = ⊥
 IsTextOf bytes WriteFault text = ⊥
 IsTextOf bytes Memory text = ⊥
 
+-- what is told of a link with these objects
+abbrev pub told_text : Told → List ObjectFile → Answer → Bytes
+told_text Report objects linked = report_text linked
+told_text (Summary members) objects linked = summary_text members objects linked
+
+-- the text of a link of a world, of which so much is told, by the status
+abbrev pub IsWorldText : World → (Answer → Bytes) → Status → Bytes → Type 0
+IsWorldText w tell Linked text = (linked : Answer) × IsLinked w linked × (text ≡ tell linked)
+IsWorldText w tell Refused text = (cause : Bytes) × IsRefusalText w cause × (text ≡ error_line cause)
+IsWorldText w tell Manifest text = ⊥
+IsWorldText w tell Usage text = ⊥
+IsWorldText w tell ReadFault text = ⊥
+IsWorldText w tell WriteFault text = ⊥
+IsWorldText w tell Memory text = ⊥
+
+-- the summary of a link of the made-up world of so many members
+abbrev pub IsSummary : ℕ → Bytes → Type 0
+IsSummary members text = (linked : Answer) × IsLinked (bulk_world members) linked × (text ≡ summary_text members (bulk_objects members) linked)
+
+-- the words ask for it
+abbrev pub IsSummaryFor : List Bytes → Bytes → Type 0
+IsSummaryFor words text = (members : ℕ) × IsBulk words members × IsSummary members text
+
 -- the same, for some bytes; where the source tells, they are all that it had left
 abbrev pub IsWholeText : Option Bytes → Status → Bytes → Type 0
 IsWholeText left status text = (bytes : Bytes) × IfSome left (λ all. all ≡ bytes) × IsTextOf bytes status text
@@ -70,7 +101,7 @@ IsLinkText left Memory text = ⊥
 
 -- the text for these words and what the source has left, by the status
 abbrev pub IsTextFor : List Bytes → Option Bytes → Status → Bytes → Type 0
-IsTextFor words left Linked text = IsLink words × IsLinkText left Linked text
+IsTextFor words left Linked text = (IsLink words × IsLinkText left Linked text) ⊎ IsSummaryFor words text
 IsTextFor words left Refused text = IsLink words × IsLinkText left Refused text
 IsTextFor words left Manifest text = IsLink words × IsLinkText left Manifest text
 IsTextFor words left ReadFault text = IsLink words × IsLinkText left ReadFault text
@@ -80,7 +111,7 @@ IsTextFor words left Memory text = text ≡ []
 
 -- the status and the text that are due, where no fault comes between: by the words, and by what a source that tells has left
 abbrev pub IsDue : List Bytes → Option Bytes → Status → Bytes → Type 0
-IsDue words left Linked text = IsSome left × IsTextFor words left Linked text
+IsDue words left Linked text = (IsSome left × IsLink words × IsLinkText left Linked text) ⊎ IsSummaryFor words text
 IsDue words left Refused text = IsSome left × IsTextFor words left Refused text
 IsDue words left Manifest text = IsSome left × IsTextFor words left Manifest text
 IsDue words left Usage text = IsTextFor words left Usage text

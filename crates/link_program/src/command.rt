@@ -4,6 +4,7 @@ ghost use Rattle.std.specs.Prelude.{◌≡◌, ◌≢◌, ℕ, ◌≤◌, decima
 ghost use Rattle.link_program.specs.Grammar.{IsCommand, IsNoCommand};
 
 use crate::word::Word;
+use link_bulk::MAX_MEMBERS;
 
 /// The most workers that a link has.
 const MAX_WORKERS: usize = 256;
@@ -13,6 +14,8 @@ const MAX_WORKERS: usize = 256;
 pub enum Command {
     /// `link W`: the objects of the manifest are linked, by so many workers.
     Link { workers: usize },
+    /// `bulk N W`: a made-up world of so many archive members is linked, by so many workers.
+    Bulk { members: usize, workers: usize },
 }
 
 /// The command that these words write.
@@ -24,6 +27,11 @@ pub fn command_of(words: &[Word]) -> Option<Command>
         [name, workers] if name.as_str() == "link" => {
             let workers = number_of(workers, MAX_WORKERS)?;
             Some(Command::Link { workers })
+        }
+        [name, members, workers] if name.as_str() == "bulk" => {
+            let members = number_of(members, MAX_MEMBERS)?;
+            let workers = number_of(workers, MAX_WORKERS)?;
+            Some(Command::Bulk { members, workers })
         }
         _ => None,
     }

@@ -1,5 +1,6 @@
 //! Links the objects of a manifest: `link W` reads it from standard input, and writes to standard
-//! output which objects are loaded and what each symbol means.
+//! output which objects are loaded and what each symbol means. `bulk N W` links a made-up world, and
+//! sums up what that gives.
 #![tactic(auto)]
 
 mod command;

@@ -1,25 +1,47 @@
 //! The program, over any source and sink.
 
-ghost use Rattle.std.specs.Prelude.{◌≡◌, ◌≢◌, ◌⊎◌, ◌+◌, ◌^◌, ◌++◌, codes, IfOk};
+ghost use Rattle.std.specs.Prelude.{◌≡◌, ◌≢◌, ◌≤◌, ◌⊎◌, ◌+◌, ◌^◌, ◌++◌, codes, IfOk};
+ghost use Rattle.link_answer.specs.Parts.{answer_of};
+ghost use Rattle.link_answer.specs.Seen as answer;
+ghost use Rattle.link_core.specs.Given.{given_by};
+ghost use Rattle.link_files.specs.Inputs.{objects_in};
+ghost use Rattle.link_loader.specs.Holds.{platform_of};
+ghost use Rattle.link_manifest.specs.Checked.{HasGroupSize, IsGroupSize};
 ghost use Rattle.link_manifest.specs.FaultText.{fault_text};
+ghost use Rattle.link_rules.specs.declared.refusal.LinkError.TheVariants.{Memory};
 ghost use Rattle.link_rules.specs.Places.{Bytes};
+ghost use Rattle.link_rules.specs.Report.{refusal_text};
+ghost use Rattle.link_rules.specs.World.{world_of};
 ghost use Rattle.link_streams.specs.Streams.{IsAtEnd, GivesAtMost, Takes, TakesPart, Rose};
-ghost use Rattle.link_program.specs.Grammar.{IsInRange, IsNoCommand};
-ghost use Rattle.link_program.specs.PlainText.{IsPlainText};
-ghost use Rattle.link_program.specs.Outcome.{error_line, IsTextOf, IsLinkText, IsTextFor, IsDue};
+ghost use Rattle.link_program.specs.Grammar.{IsInRange, IsLink, ReadsNothing};
+ghost use Rattle.link_program.specs.Outcome.{error_line, IsSummary, IsTextOf, IsLinkText, IsTextFor, IsDue, IsWorldText, given_of, told_text, world_of_manifest};
 
 use crate::command::{Command, command_of};
 use crate::status::Status;
 use crate::word::Word;
+use link_answer::Linked;
+use link_bulk::bulk_manifest;
+use link_claim::OpenGate;
 use link_core::link_symbols;
 use link_input::{Platform, World};
-use link_manifest::{MAX_BYTES, Manifest, ManifestError, ManifestFault, Problem, manifest_of};
+use link_manifest::{
+    MAX_BYTES, Manifest, ManifestError, ManifestFault, Problem, manifest_leaking_tree,
+};
 use link_names::Seq;
-use link_report::{refusal_text, report_text};
+use link_report::{refusal_text, report_text, summary_text};
 use link_rules::LinkError;
+use link_script::Plain;
 use link_streams::{ReadAllError, Sink, Source, read_all, write_all};
 use std::alloc::{AllocError, Global};
 use std::thread::Threads;
+
+/// How much is told of a link.
+#[derive(Clone, Copy, Debug, PartialEq, Eq)]
+pub enum Told {
+    Report,
+    /// The counts of a made-up world of so many members.
+    Summary { members: usize },
+}
 
 /// What is to be written, and how the command ends once it is written.
 #[derive(Drop)]
@@ -28,15 +50,16 @@ struct Answer {
     text: Vec<u8>,
 }
 
-/// Runs the command that the words write: what the source has left is read, and the answer is
-/// written to the sink. `link` reads a manifest.
+/// Runs the command that the words write, and writes its answer to the sink. `link` reads what the
+/// source has left as a manifest, and reports what a link of it gives; `bulk` reads nothing, and
+/// sums up what a link of a made-up world gives.
 ///
 /// For every manifest and every number of workers the report that is written is exactly the one
 /// that the rules of a link give, and a link is refused exactly with the first cause that the
 /// manifest holds. Neither the number of workers nor the pieces in which the bytes come and go
 /// change a byte of it. A fault of source or sink is told only where one came.
 pub fn run<R: Threads + Sync, S: Source, K: Sink>(
-    _rt: &R,
+    rt: &R,
     alloc: Global,
     words: &[Word],
     source: &mut S,
@@ -48,10 +71,10 @@ pub fn run<R: Threads + Sync, S: Source, K: Sink>(
     ensures part { result ≡ Status.WriteFault → (status : Status) × (text : Bytes)
         × IsTextFor words.now (S.left source.old) status text × TakesPart (K.taken sink.old) (K.taken sink.new) text
         × (status ≡ Status.ReadFault → Rose (S.faults source.old) (S.faults source.new))
-        × ((status ≡ Status.Linked) ⊎ (status ≡ Status.Refused) → IsAtEnd (S.left source.new)) }
+        × (IsLink words.now → (status ≡ Status.Linked) ⊎ (status ≡ Status.Refused) → IsAtEnd (S.left source.new)) }
 
-    ensures nothing_left { (result ≡ Status.Linked) ⊎ (result ≡ Status.Refused) → IsAtEnd (S.left source.new) }
-    ensures nothing_read { IsNoCommand words.now → S.left source.new ≡ S.left source.old }
+    ensures nothing_left { IsLink words.now → (result ≡ Status.Linked) ⊎ (result ≡ Status.Refused) → IsAtEnd (S.left source.new) }
+    ensures nothing_read { ReadsNothing words.now → S.left source.new ≡ S.left source.old }
     ensures read_no_further { GivesAtMost (S.left source.old) (S.left source.new) (2 ^ 28 + 1) }
 
     // A fault is told only where one came.
@@ -63,7 +86,7 @@ pub fn run<R: Threads + Sync, S: Source, K: Sink>(
         → ¬ Rose (S.faults source.old) (S.faults source.new) → ¬ Rose (K.faults sink.old) (K.faults sink.new)
         → ((result ≡ status) × Takes (K.taken sink.old) (K.taken sink.new) text) ⊎ (result ≡ Status.Memory) }
 {
-    let answer = match answer_to(alloc, words, source) {
+    let answer = match answer_to(rt, alloc, words, source) {
         Ok(answer) => answer,
         Err(_) => return Status::Memory,
     };
@@ -74,22 +97,29 @@ pub fn run<R: Threads + Sync, S: Source, K: Sink>(
 }
 
 /// The answer to the words.
-fn answer_to<S: Source>(alloc: Global, words: &[Word], source: &mut S) -> Result<Answer, AllocError>
+fn answer_to<R: Threads + Sync, S: Source>(
+    rt: &R,
+    alloc: Global,
+    words: &[Word],
+    source: &mut S,
+) -> Result<Answer, AllocError>
     ensures text { IfOk result (λ a. IsTextFor words.now (S.left source.old) a.status a.text.items) }
-    ensures nothing_left { IfOk result (λ a. (a.status ≡ Status.Linked) ⊎ (a.status ≡ Status.Refused) → IsAtEnd (S.left source.new)) }
-    ensures nothing_read { IsNoCommand words.now → S.left source.new ≡ S.left source.old }
+    ensures nothing_left { IfOk result (λ a. IsLink words.now → (a.status ≡ Status.Linked) ⊎ (a.status ≡ Status.Refused) → IsAtEnd (S.left source.new)) }
+    ensures nothing_read { ReadsNothing words.now → S.left source.new ≡ S.left source.old }
     ensures read_no_further { GivesAtMost (S.left source.old) (S.left source.new) (2 ^ 28 + 1) }
     ensures read_fault { IfOk result (λ a. a.status ≡ Status.ReadFault → Rose (S.faults source.old) (S.faults source.new)) }
     ensures answered { IfOk result (λ a. a.status ≢ Status.Memory) }
 {
     match command_of(words) {
-        Some(Command::Link { workers }) => answer_to_link(alloc, workers, source),
+        Some(Command::Link { workers }) => answer_to_link(rt, alloc, workers, source),
+        Some(Command::Bulk { members, workers }) => answer_to_bulk(rt, alloc, members, workers),
         None => error_answer(alloc, Status::Usage, b"usage"),
     }
 }
 
 /// The answer to a link of what a source has left.
-fn answer_to_link<S: Source>(
+fn answer_to_link<R: Threads + Sync, S: Source>(
+    rt: &R,
     alloc: Global,
     workers: usize,
     source: &mut S,
@@ -101,7 +131,7 @@ fn answer_to_link<S: Source>(
     ensures read_fault { IfOk result (λ a. a.status ≡ Status.ReadFault → Rose (S.faults source.old) (S.faults source.new)) }
 {
     match read_all(alloc, source, MAX_BYTES) {
-        Ok(bytes) => answer_to_bytes(alloc, workers, &bytes),
+        Ok(bytes) => answer_to_bytes(rt, alloc, workers, &bytes),
         Err(ReadAllError::TooLong) => {
             let fault = ManifestFault {
                 path: Seq::new(alloc),
@@ -115,40 +145,113 @@ fn answer_to_link<S: Source>(
 }
 
 /// The answer to a link of what these bytes describe.
-fn answer_to_bytes(alloc: Global, workers: usize, bytes: &[u8]) -> Result<Answer, AllocError>
+fn answer_to_bytes<R: Threads + Sync>(
+    rt: &R,
+    alloc: Global,
+    workers: usize,
+    bytes: &[u8],
+) -> Result<Answer, AllocError>
     requires in_range { IsInRange (Command.Link workers) }
     ensures { IfOk result (λ a. IsTextOf bytes.now a.status a.text.items) }
 {
-    match manifest_of(alloc, bytes) {
-        Ok(Manifest::Elf(world)) => answer_to_world(alloc, workers, world),
-        Ok(Manifest::Mach(world)) => answer_to_world(alloc, workers, world),
+    match manifest_leaking_tree(alloc, bytes) {
+        Ok(manifest) => answer_to_manifest(rt, alloc, workers, Told::Report, manifest),
         Err(ManifestError::At(fault)) => fault_answer(alloc, &fault),
         Err(ManifestError::Memory) => Err(AllocError),
     }
 }
 
-/// The answer to a link of this world.
-fn answer_to_world<P: Platform>(
+/// The answer to a link of the made-up world of so many members.
+fn answer_to_bulk<R: Threads + Sync>(
+    rt: &R,
+    alloc: Global,
+    members: usize,
+    workers: usize,
+) -> Result<Answer, AllocError>
+    requires in_range { IsInRange (Command.Bulk members workers) }
+    ensures { IfOk result (λ a. (a.status ≡ Status.Linked) × IsSummary members a.text.items) }
+{
+    let manifest = bulk_manifest(alloc, members)?;
+    answer_to_manifest(rt, alloc, workers, Told::Summary { members }, manifest)
+}
+
+/// The answer to a link of what a manifest describes.
+fn answer_to_manifest<R: Threads + Sync>(
+    rt: &R,
     alloc: Global,
     workers: usize,
+    told: Told,
+    manifest: Manifest,
+) -> Result<Answer, AllocError>
+    requires in_range { IsInRange (Command.Link workers) }
+    requires group_size { HasGroupSize manifest }
+    ensures { IfOk result (λ a. IsWorldText (world_of_manifest manifest) (told_text told (given_of manifest).first.objects) a.status a.text.items) }
+{
+    match manifest {
+        Manifest::Elf(world) => answer_to_world(rt, alloc, workers, told, world),
+        Manifest::Mach(world) => answer_to_world(rt, alloc, workers, told, world),
+    }
+}
+
+/// The answer to a link of this world.
+fn answer_to_world<R: Threads + Sync, P: Platform + Sync>(
+    rt: &R,
+    alloc: Global,
+    workers: usize,
+    told: Told,
     world: World<P>,
 ) -> Result<Answer, AllocError>
     requires in_range { IsInRange (Command.Link workers) }
-    ensures { IfOk result (λ a. IsPlainText world.inputs.objects a.status a.text.items) }
+    requires group_size { IsGroupSize world.options.files_per_group }
+    ensures { IfOk result (λ a. IsWorldText (world_of (platform_of P.Platform) (λ name. name) (given_by world.inputs world.options world.scripts))
+        (told_text told world.inputs.objects) a.status a.text.items) }
 {
-    match link_symbols(alloc, world.inputs, world.options, workers) {
+    let World {
+        inputs,
+        options,
+        scripts,
+    } = world;
+    match link_symbols(
+        rt, alloc, &OpenGate, inputs, options, scripts, &Plain, workers,
+    ) {
         Ok(linked) => {
-            let text = report_text(alloc, &linked)?;
+            let text = text_of(alloc, told, &linked)?;
             Ok(Answer {
                 status: Status::Linked,
                 text,
             })
         }
-        Err(LinkError::Memory) => Err(AllocError),
-        Err(error) => {
+        Err(error) => refusal_answer(alloc, error),
+    }
+}
+
+/// The answer to a link that is refused; none where memory ran out.
+fn refusal_answer(alloc: Global, error: LinkError) -> Result<Answer, AllocError>
+    ensures cause { IfOk result (λ a. error ≢ Memory) }
+    ensures status { IfOk result (λ a. a.status ≡ Status.Refused) }
+    ensures text { IfOk result (λ a. a.text.items ≡ error_line (refusal_text error)) }
+{
+    match error {
+        LinkError::Memory => Err(AllocError),
+        _ => {
             let cause = refusal_text(alloc, &error)?;
             error_answer(alloc, Status::Refused, &cause)
         }
+    }
+}
+
+/// What is told of a link.
+fn text_of<P: Platform>(
+    alloc: Global,
+    told: Told,
+    linked: &Linked<P>,
+) -> Result<Vec<u8>, AllocError>
+    ensures { IfOk result (λ text. text.items
+        ≡ told_text told (objects_in (answer.seen linked.now).db.mapping.files.groups) (answer_of (answer.seen linked.now))) }
+{
+    match told {
+        Told::Report => report_text(alloc, linked),
+        Told::Summary { members } => summary_text(alloc, members, linked),
     }
 }
 

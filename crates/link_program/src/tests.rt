@@ -30,9 +30,10 @@ symbol 8 <unnamed> -> 0 [ABSOLUTE | NON_INTERPOSABLE]
 symbol 9 baz -> 9 [NON_INTERPOSABLE]
 ";
 
-/// Manifests that `link 2` is run on, how each ends, and what is written.
-const MANIFESTS: &[(&str, Status, &str)] = &[
+/// Commands with what they read, how each ends, and what is written. Many more are run by the built program (`tools/run_rows.py`).
+const COMMANDS: &[(&str, &str, Status, &str)] = &[
     (
+        "link 2",
         r#"{"objects":[{"name":"e.o"}]}"#,
         Status::Linked,
         "loaded 0 e.o
@@ -40,84 +41,27 @@ symbol 0 <unnamed> -> 0 [ABSOLUTE]
 symbol 1 <unnamed> -> 0 [ABSOLUTE | NON_INTERPOSABLE]
 ",
     ),
-    // Names with a quote, a line feed and a letter of two bytes; one of them is not defined.
+    ("link 2", "{}", Status::Refused, "error: no input files\n"),
     (
-        r#"{"objects":[{"name":"\"q\".o","sections":1,"symbols":[{"name":"a\nb","place":"undefined"},{"name":"\u00e9","place":0}]}]}"#,
+        "link 2",
+        "",
+        Status::Manifest,
+        "error: manifest: not JSON\n",
+    ),
+    ("", ARCHIVE, Status::Usage, "error: usage\n"),
+    ("link \u{661}", ARCHIVE, Status::Usage, "error: usage\n"),
+    (
+        "bulk 10 3",
+        ARCHIVE,
         Status::Linked,
-        "loaded 0 \"q\".o
-symbol 0 <unnamed> -> 0 [ABSOLUTE]
-symbol 1 <unnamed> -> 0 [ABSOLUTE | NON_INTERPOSABLE]
-symbol 2 a\nb -> 2 [ABSOLUTE | NON_INTERPOSABLE]
-symbol 3 \u{e9} -> 3 [NON_INTERPOSABLE]
-undefined 2 a\nb
+        "members 10
+loaded members 9
+kept 3
+discarded 6
+symbols 41
+undefined 0
 ",
     ),
-    // A name that is no text, and a member of an archive that is taken whole.
-    (
-        r#"{"objects":[{"name":"a.o","sections":2,"symbols":[{"name":{"hex":"fF00"},"place":1}]}]}"#,
-        Status::Linked,
-        "loaded 0 a.o
-symbol 0 <unnamed> -> 0 [ABSOLUTE]
-symbol 1 <unnamed> -> 0 [ABSOLUTE | NON_INTERPOSABLE]
-symbol 2 INVALID UTF-8([255, 0]) -> 2 [NON_INTERPOSABLE]
-",
-    ),
-    (
-        r#"{"files_per_group":1,"objects":[{"name":"w.o","archive":true,"whole_archive":true,"sections":1,"symbols":[{"name":"f","place":0}]}]}"#,
-        Status::Linked,
-        "loaded 0 w.o
-symbol 0 <unnamed> -> 0 [ABSOLUTE]
-symbol 1 <unnamed> -> 0 [ABSOLUTE | NON_INTERPOSABLE]
-symbol 2 f -> 2 [NON_INTERPOSABLE]
-",
-    ),
-    ("{}", Status::Refused, "error: no input files\n"),
-    (
-        r#"{"objects":[{"name":"a.o","sections":2,"symbols":[{"name":"foo","place":1}]},{"name":"b.o","sections":2,"symbols":[{"name":"foo","place":1}]}]}"#,
-        Status::Refused,
-        "error: Duplicate symbols detected: foo, defined in a.o and b.o\n",
-    ),
-    ("", Status::Manifest, "error: manifest: not JSON\n"),
-    (
-        r#"{"objets":[]}"#,
-        Status::Manifest,
-        "error: manifest: objets: unknown key\n",
-    ),
-    (
-        r#"{"objects":[{"name":"a.o"},{"symbols":[]}]}"#,
-        Status::Manifest,
-        "error: manifest: objects[1].name: missing\n",
-    ),
-    ("[]", Status::Manifest, "error: manifest: expected object\n"),
-    (
-        r#"{"objects":[{"name":"a.o"},{"name":"b.o","sections":2,"symbols":[{"name":"f","place":2}]}]}"#,
-        Status::Manifest,
-        "error: manifest: objects[1]: symbol 1 has no such section\n",
-    ),
-    (
-        r#"{"files_per_group":257}"#,
-        Status::Manifest,
-        "error: manifest: files_per_group: expected number\n",
-    ),
-];
-
-/// Words that are no command.
-const NO_COMMANDS: &[&str] = &[
-    "",
-    "link",
-    "2",
-    "link 0",
-    "link 257",
-    "link 01",
-    "link +1",
-    "link -1",
-    "link 1x",
-    "link \u{661}",
-    "link 18446744073709551617",
-    "link 1 2",
-    "Link 1",
-    "2 link",
-    "bulk 10 3",
 ];
 
 /// The words that a blank parts.
@@ -152,26 +96,13 @@ fn ran<R: Threads + Sync>(
 }
 
 #[test]
-fn each_manifest_has_its_text(rt: HostRuntime) -> Result<(), Fail> {
+fn each_command_has_its_text(rt: HostRuntime) -> Result<(), Fail> {
     let alloc = rt.alloc();
-    for &(manifest, status, text) in MANIFESTS {
-        let (ended, taken) = ran(&rt, alloc, "link 2", manifest, 100, 0, 0)?;
+    for &(line, stdin, status, text) in COMMANDS {
+        let (ended, taken) = ran(&rt, alloc, line, stdin, 100, 0, 0)?;
         assert!(rt;
             ended == status && taken.as_slice() == text.as_bytes(),
-            "{manifest}"
-        );
-    }
-    Ok(())
-}
-
-#[test]
-fn other_words_are_no_command(rt: HostRuntime) -> Result<(), Fail> {
-    let alloc = rt.alloc();
-    for &line in NO_COMMANDS {
-        let (ended, taken) = ran(&rt, alloc, line, ARCHIVE, 100, 0, 0)?;
-        assert!(rt;
-            ended == Status::Usage && taken.as_slice() == b"error: usage\n".as_slice(),
-            "{line}"
+            "{line}: {stdin}"
         );
     }
     Ok(())

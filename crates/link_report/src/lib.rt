@@ -1,10 +1,14 @@
-//! What a link prints: the report of its answer, or the text of its refusal.
+//! What a link prints: the report or the summary of its answer, or the text of its refusal.
 #![tactic(auto)]
 
+mod counts;
+mod lines;
 mod refusal;
 mod report;
+mod summary;
 #[cfg(test)]
 mod tests;
 
 pub use refusal::refusal_text;
 pub use report::report_text;
+pub use summary::summary_text;

@@ -1,5 +1,5 @@
 use Rattle.std.proofs.Common.{◌≡◌, length, codes, arith, rules}
-use Rattle.link_program.proofs.Numerals.{two-words}
+use Rattle.link_program.proofs.Numerals.{three-words, two-words}
 use Rattle.link_program.proofs.command.command_of.Goals as goal
 
 pub returns-in_ok-workers-in-len2-clause-command : goal.returns-in_ok-workers-in-len2-clause-command
@@ -8,3 +8,14 @@ returns-in_ok-workers-in-len2-clause-command c =
     let name : c.name-item.result ≡ codes "link" = search rules in
     let made = c.in_ok-workers-in-len2.ensures in
     (two-words c.args.words.now c.name-item.result c.workers-item.result _ _ two c.name-item.is c.workers-item.is name made.number, made.in_range)
+
+pub returns-in_ok-workers-in-len3-clause-command : goal.returns-in_ok-workers-in-len3-clause-command
+returns-in_ok-workers-in-len3-clause-command c =
+    let three : length c.args.words.now ≡ 3 = omega (arith, c.in-len3.len_at_least, c.in-len3.len_below) in
+    let name : c.name-item-then-words-lt4.result ≡ codes "bulk" = search rules in
+    let members = c.in_ok-members-in-len3.ensures in
+    let workers = c.in_ok-workers-in-len3.ensures in (
+      three-words c.args.words.now c.name-item-then-words-lt4.result c.members-item.result c.workers-item-then-words-lt4.result _ _ _ three c.name-item-then-words-lt4.is c.members-item.is
+          c.workers-item-then-words-lt4.is name members.number workers.number,
+      (members.in_range, workers.in_range),
+    )

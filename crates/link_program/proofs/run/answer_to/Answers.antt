@@ -1,12 +1,19 @@
-use Rattle.std.proofs.Common.{refl}
+use Rattle.std.proofs.Common.{refl, subst}
 use Rattle.link_streams.proofs.Flow.{gives-at_most_nothing}
-use Rattle.link_program.proofs.OfWorld.{words-text, is-link, ok-into}
+use Rattle.link_program.specs.declared.command.Command.{Command}
+use Rattle.link_program.specs.Grammar.{IsCommand}
+use Rattle.link_program.proofs.OfWorld.{bulk-text, words-text, ok-into}
 use Rattle.link_program.proofs.run.answer_to.Goals as goal
 
 pub returns-in-Some-Link-clause-text : goal.returns-in-Some-Link-clause-text
 returns-in-Some-Link-clause-text g c =
-    ok-into c.answer_to_link.result _ _ (λ a held. words-text c.args.words.now (g.S.Source.left c.args.source.now) a.status a.text.items (is-link c.args.words.now c.in-Some-Link.field-0 c.in-Some-Link.ensures.command) held)
+    ok-into c.answer_to_link.result _ _ (λ a held. words-text c.args.words.now (g.S.Source.left c.args.source.now) a.status a.text.items (c.in-Some-Link.workers, subst (λ (k : Command). IsCommand c.args.words.now k) c.in-Some-Link.field-0-is c.in-Some-Link.ensures.command) held)
     c.answer_to_link.ensures.text
+
+pub returns-in-Some-Bulk-clause-text : goal.returns-in-Some-Bulk-clause-text
+returns-in-Some-Bulk-clause-text g c =
+    ok-into c.answer_to_bulk.result _ _ (λ a held. bulk-text c.args.words.now (g.S.Source.left c.args.source.now) c.in-Some-Bulk.members a.status a.text.items (c.in-Some-Bulk.workers, subst (λ (k : Command). IsCommand c.args.words.now k) c.in-Some-Bulk.field-0-is c.in-Some-Bulk.ensures.command) held)
+    c.answer_to_bulk.ensures
 
 pub returns-in-None-clause-read_no_further : goal.returns-in-None-clause-read_no_further
 returns-in-None-clause-read_no_further g c = gives-at_most_nothing _ _ _ refl

@@ -1,10 +1,13 @@
 use Rattle.std.proofs.Common.{◌≡◌, ◌++◌, drop}
 use Rattle.std.specs.Prelude.{string_bytes}
 use Rattle.link_rules.specs.Places.{each_from}
-use Rattle.link_rules.specs.Report.{symbol_line, joined_lines}
+use Rattle.link_rules.specs.Report.{joined_lines, symbol_line}
+use Rattle.link_answer.specs.Parts.{answer_of}
+use Rattle.link_answer.specs.Seen.{seen}
 use Rattle.link_report.proofs.report.write_symbol_lines.Given as goal
 
 abbrev pub invariant-loop-id : goal.invariant-loop-id
-invariant-loop-id l =
-    string_bytes l.text ++ joined_lines (each_from (symbol_line l.table l.flags) l.id (drop l.id l.names))
-    ≡ string_bytes l.initial.text ++ joined_lines (each_from (symbol_line l.table l.flags) 0 l.names)
+invariant-loop-id g l =
+    let answer = answer_of (seen l.linked) in
+    string_bytes l.text ++ joined_lines (each_from (symbol_line answer.table answer.flags) l.id (drop l.id answer.names))
+    ≡ string_bytes l.initial.text ++ joined_lines (each_from (symbol_line answer.table answer.flags) 0 answer.names)

@@ -1,0 +1,27 @@
+use Rattle.std.proofs.Common.{rules, arith, ◌≡◌, ◌∙◌, ◌==◌, ℕ, List, ap, not, sym}
+use Rattle.std.specs.Prelude.{count_by}
+use Rattle.link_closure.specs.Closure.{is_marked}
+use Rattle.link_files.specs.Inputs.{objects_in}
+use Rattle.link_input.specs.Limits.{total}
+use Rattle.link_input.specs.ObjectFile.{ObjectFile}
+use Rattle.link_answer.specs.Parts.{loaded_among}
+use Rattle.link_answer.specs.Seen.{seen}
+use Rattle.link_report.specs.Summary.{comdat_count}
+use Rattle.link_report.proofs.Counted.{comdats-told, members-told}
+use Rattle.link_report.proofs.summary.loaded_counts.Goals as goal
+
+-- what doesn't stand first among the loaded objects is counted as the answer has it
+pub returns-clause-members : goal.returns-clause-members
+returns-clause-members g c =
+    let loaded = loaded_among (seen c.args.linked.now).known.marks (objects_in (seen c.args.linked.now).db.mapping.files.groups) in
+    let are : c.deref.result.now ≡ loaded = search rules in
+    c.member_count.ensures ∙ (ap (λ (os : List (ℕ × ObjectFile)). count_by (λ o. not (o.0 == 0)) os) are ∙ sym (members-told loaded))
+
+-- the groups of each loaded object are those that its place in the answer leads to
+pub returns-clause-discarded : goal.returns-clause-discarded
+returns-clause-discarded g c =
+    let objects = objects_in (seen c.args.linked.now).db.mapping.files.groups in
+    let are : c.deref-2.result.now ≡ loaded_among (seen c.args.linked.now).known.marks objects = search rules in
+    let comdats = c.comdats_of_all.ensures
+    ∙ (ap (λ (os : List (ℕ × ObjectFile)). total (λ o. comdat_count o.1) os) are ∙ sym (comdats-told (λ o. is_marked (seen c.args.linked.now).known.marks o.0) objects)) in
+    rw (← comdats) (search rules)
