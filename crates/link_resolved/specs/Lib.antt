@@ -1,0 +1,4 @@
+pub mod ResolvedFiles
+pub mod ResolvedText
+pub mod Resolving
+pub mod Places
