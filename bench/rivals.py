@@ -1,58 +1,62 @@
 #!/usr/bin/env python3
-"""Links many rivals by the built program of cases, and prints what each link takes.
+"""Links names with many definitions, and prints how the time grows.
 
-    python3 bench/rivals.py [PROGRAM]
+    python3 bench/rivals.py [PROGRAM] [COUNT..]
 
-PROGRAM is the built program, crates/link_db_cases/out/link_db_cases by default (`rt run` in its crate builds it). `one` is
-one name that so many objects define weakly; `pairs` are so many names, each of which two objects define weakly. The figures are
-the least of three runs: seconds, with the reading of the text and the writing of the answer; the most memory that the
-program held.
+PROGRAM is the built program, crates/link_program/out/link_program by default (./wolzhyke builds it). COUNT is a number of rivals,
+by default 1000, 10000 and 100000. `one` is one name that so many objects define weakly, `pairs` are so many names that each of two
+objects defines weakly. Prints a line for each: processor seconds, the least of three runs, and the most memory that was held.
 """
 
+import json
 import os
 import sys
 import tempfile
 
 
+def weak(name):
+    return {"name": name, "place": 1, "bind": "weak"}
+
+
 def one(count):
-    """Objects that define one name."""
-    return "".join(f"object o{i}.o\nsymbol f weak\n" for i in range(count))
+    return {"objects": [{"name": f"o{i}.o", "sections": 2, "symbols": [weak("foo")]} for i in range(count)]}
 
 
 def pairs(count):
-    """Two objects that define the same names."""
-    names = "".join(f"symbol name_{i} weak\n" for i in range(count))
-    return f"object a.o\n{names}object b.o\n{names}"
+    names = [weak(f"name{i}") for i in range(count)]
+    return {"objects": [{"name": name, "sections": 2, "symbols": names} for name in ("a.o", "b.o")]}
 
 
-def run(program, text):
-    """Seconds, and the most KiB that the program held."""
-    with tempfile.TemporaryFile() as source:
-        source.write(f"link rivals elf\nnew\n{text}".encode())
-        source.seek(0)
+def run(program, manifest):
+    """The processor seconds that the program took, and the most KiB that it held."""
+    with tempfile.TemporaryDirectory() as folder:
+        source = os.path.join(folder, "manifest.json")
+        with open(source, "w") as file:
+            json.dump(manifest, file, separators=(",", ":"))
         child = os.fork()
         if child == 0:
-            os.dup2(source.fileno(), 0)
+            os.dup2(os.open(source, os.O_RDONLY), 0)
             os.dup2(os.open(os.devnull, os.O_WRONLY), 1)
-            os.execv(program, [program])
+            os.execv(program, [program, "link", "1"])
         _, status, usage = os.wait4(child, 0)
-    if status != 0:
-        sys.exit(f"{program} ended with status {os.waitstatus_to_exitcode(status)}")
-    return usage.ru_utime + usage.ru_stime, usage.ru_maxrss
+        if status != 0:
+            sys.exit(f"{program} ended with status {os.waitstatus_to_exitcode(status)}")
+        return usage.ru_utime + usage.ru_stime, usage.ru_maxrss
 
 
 def main():
+    words = sys.argv[1:]
     top = os.path.dirname(os.path.dirname(os.path.abspath(__file__)))
-    program = os.path.join(top, "crates/link_db_cases/out/link_db_cases")
-    if len(sys.argv) > 1:
-        program = os.path.abspath(sys.argv[1])
+    program = os.path.join(top, "crates/link_program/out/link_program")
+    if words and not words[0].isdigit():
+        program = os.path.abspath(words.pop(0))
+    counts = [int(word) for word in words] or [1000, 10000, 100000]
     print(f"{'kind':>5} {'rivals':>7} {'s':>7} {'MB held':>8}")
-    for kind in (one, pairs):
-        for count in (1000, 10000, 100000):
-            text = kind(count)
-            runs = [run(program, text) for _ in range(3)]
-            seconds, held = min(r[0] for r in runs), min(r[1] for r in runs)
-            print(f"{kind.__name__:>5} {count:7} {seconds:7.3f} {held / 1024:8.1f}", flush=True)
+    for name, make in (("one", one), ("pairs", pairs)):
+        for count in counts:
+            runs = [run(program, make(count)) for _ in range(3)]
+            seconds, held = min(runs)
+            print(f"{name:>5} {count:7} {seconds:7.3f} {held / 1024:8.1f}", flush=True)
 
 
 if __name__ == "__main__":
