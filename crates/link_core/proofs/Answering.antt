@@ -11,7 +11,7 @@ use Rattle.link_files.specs.HeldFiles.{HeldFiles}
 use Rattle.link_comdat.specs.Selected.{SelectedGroups}
 use Rattle.link_rules.specs.declared.linked.GivenVersion.{GivenVersion}
 use Rattle.link_rules.specs.declared.linked.UndefinedName.{UndefinedName}
-use Rattle.link_rules.specs.Answer.{linked_from, missing_exports, undefined_names}
+use Rattle.link_rules.specs.Answer.{linked_from, missing_exports}
 use Rattle.link_rules.specs.Names.{Mapping, first_definition}
 use Rattle.link_rules.specs.Places.{Bytes}
 use Rattle.link_rules.specs.Rules.{PlatformRules}
@@ -22,7 +22,7 @@ use Rattle.link_rules.specs.World.{Stage, World, first_stage}
 use Rattle.link_undefined.proofs.Numbering.{AreAt, all-at, filter-at}
 use Rattle.link_db.specs.Database.{Database}
 use Rattle.link_resolve.specs.Resolving.{Resolving}
-use Rattle.link_answer.specs.Parts.{Parts, answer_of, loaded_among, told_object, undefined_name}
+use Rattle.link_answer.specs.Parts.{answer_of, loaded_among, told_object, undefined_name}
 use Rattle.link_core.specs.Steps.{IsEndedWith, selected, undefined_ids}
 
 -- the name of a symbol among those of all

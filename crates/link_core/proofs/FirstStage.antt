@@ -1,14 +1,11 @@
 -- A database with the files of a world's batch is at the first stage of its link.
-use Rattle.std.proofs.Common.{◌≡◌, ◌∙◌, ◌+◌, ◌*◌, ◌<◌, ◌≤◌, ◌^◌, ◌++◌, ℕ, List, [], ◌∷◌, Bool, false, Option, None, refl, sym, ap, subst, arith, append-nil, drop, length, map}
+use Rattle.std.proofs.Common.{◌≡◌, ◌∙◌, ◌+◌, ◌++◌, ℕ, List, [], ◌∷◌, Bool, false, Option, None, refl, sym, ap, subst, arith, append-nil, drop, length, map}
 use Rattle.std.specs.Prelude.{fold, is_some}
-use Rattle.std.proofs.lemmas.List.{length-map}
 use Rattle.link_input.specs.declared.options.Options.{Options}
 use Rattle.link_input.specs.declared.world.ProcessedLinkerScript.{ProcessedLinkerScript}
-use Rattle.link_input.specs.declared.world.Scripts.{Scripts}
-use Rattle.link_input.specs.InputFiles.{Batch, input_files}
+use Rattle.link_input.specs.InputFiles.{Batch}
 use Rattle.link_input.specs.Limits.{Counts, counts_of, first_excess}
 use Rattle.link_input.specs.Symbols.{Symbol}
-use Rattle.link_groups.specs.declared.group.Group.{Group}
 use Rattle.link_groups.specs.Held.{AreGroupsOf}
 use Rattle.link_files.proofs.Joining.{symbols-of-batches}
 use Rattle.link_files.specs.GroupFiles.{symbols_in}
@@ -22,15 +19,15 @@ use Rattle.link_rules.specs.Opening.{opening_flags}
 use Rattle.link_rules.specs.Places.{Bytes, each_from}
 use Rattle.link_rules.specs.Refusals.{counts_at, first_cause, linker_script_cause, too_many}
 use Rattle.link_rules.specs.Rules.{PlatformRules, rules_of, taken_text}
-use Rattle.link_rules.specs.World.{Stage, World, first_stage}
-use Rattle.link_loader.specs.Holds.{AreRulesOf, HoldsTexts}
+use Rattle.link_rules.specs.World.{World, first_stage}
+use Rattle.link_loader.specs.Holds.{HoldsTexts}
 use Rattle.link_mapping.specs.Mapped.{AreListed, mapping_of}
 use Rattle.link_db.specs.Adding.{HaveOpeningFlags, IsGrown, inputs_cause}
 use Rattle.link_db.specs.Database.{Database, HasTable, no_names, symbol_names}
 use Rattle.link_db.specs.Overrides.{IsMappedAnew}
 use Rattle.link_resolve.proofs.Settling.{count-symbols}
 use Rattle.link_stage.proofs.Mappings.{comes-to}
-use Rattle.link_stage.specs.AtStage.{HasBatches, HoldsBatches, IsAtStage}
+use Rattle.link_stage.specs.AtStage.{HasBatches, IsAtStage}
 use Rattle.link_core.specs.Steps.{HasOneBatch, HasRoom, IsNew, inputs_refusal}
 
 -- with its first batch a world has the files of that batch

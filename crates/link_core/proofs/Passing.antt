@@ -8,7 +8,7 @@ use Rattle.link_discarding.specs.Indexed.{AreGroupsOf}
 use Rattle.link_files.specs.GroupFiles.{symbols_in}
 use Rattle.link_files.specs.Inputs.{objects_in}
 use Rattle.link_rules.specs.declared.refusal.LinkError.{LinkError}
-use Rattle.link_rules.specs.Answer.{BatchesEnd, IsRefused}
+use Rattle.link_rules.specs.Answer.{IsRefused}
 use Rattle.link_rules.specs.FinalFlags.{final_flags}
 use Rattle.link_rules.specs.Loading.{IsLoaded}
 use Rattle.link_rules.specs.Marking.{marked_flags}
@@ -23,11 +23,10 @@ use Rattle.link_rules.specs.World.{World, first_stage}
 use Rattle.link_loader.specs.Causes.{TellsCause}
 use Rattle.link_loader.specs.Holds.{AreRulesOf}
 use Rattle.link_loader.specs.ReadTexts.{ReadTexts}
-use Rattle.link_mapping.specs.Mapped.{Mapped}
 use Rattle.link_db.specs.Database.{Database, HasTable, symbol_names}
-use Rattle.link_resolve.specs.Known.{IsListed, IsSelection, Known}
+use Rattle.link_resolve.specs.Known.{IsSelection, Known}
 use Rattle.link_resolve.specs.Resolving.{IsNextStage, Resolving, loading_cause, nothing_known}
-use Rattle.link_resolve.specs.Settled.{IsEnded, IsSettled}
+use Rattle.link_resolve.specs.Settled.{IsSettled}
 use Rattle.link_core.specs.Steps.{HasRoom, IsEndedWith, IsLoadedWith, IsOpened, IsRefusedWith, IsSettledWith, Selects, selected}
 use Rattle.link_core.proofs.Refusing.{selects}
 

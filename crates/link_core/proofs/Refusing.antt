@@ -1,8 +1,7 @@
 -- How a link of one batch ends, by what is known on the way.
-use Rattle.std.proofs.Common.{◌≡◌, ◌∙◌, List, [], ◌∷◌, Bool, false, Option, None, Some, MatchOption, Ok, Err, refl, sym, ap, subst, inl, inr}
+use Rattle.std.proofs.Common.{◌≡◌, ◌∙◌, List, [], Bool, false, Option, None, Some, MatchOption, Ok, Err, refl, sym, ap, subst, inl, inr}
 use Rattle.std.specs.Option.{option_or}
 use Rattle.link_rules.specs.declared.refusal.LinkError.{LinkError}
-use Rattle.link_rules.specs.declared.refusal.LinkError.TheVariants.{Memory}
 use Rattle.link_input.specs.InputFiles.{Batch}
 use Rattle.link_rules.specs.World.{World, first_stage, start_of}
 use Rattle.link_rules.specs.Loading.{IsLoaded}
@@ -14,7 +13,7 @@ use Rattle.link_rules.specs.Answer.{BatchesEnd, End, EndsWith, IsRefused, IsRefu
 use Rattle.link_rules.specs.Work.{ComesTo, IsStageOf}
 use Rattle.link_rules.proofs.Existence.{stage-loads}
 use Rattle.link_resolve.specs.Resolving.{loading_cause}
-use Rattle.link_core.specs.Steps.{IsRefusedWith, Selects, inputs_refusal}
+use Rattle.link_core.specs.Steps.{Selects, inputs_refusal}
 
 -- ---- one cause of several
 

@@ -1,5 +1,5 @@
 -- How far a link of one batch has come.
-use Rattle.std.specs.Prelude.{ℕ, ◌≡◌, ◌⊎◌, ◌+◌, ◌*◌, ◌<◌, ◌^◌, ◌&&◌, List, [], ◌∷◌, Bool, false, filter, is_none, is_some, length, map, not, None, Ok, Option}
+use Rattle.std.specs.Prelude.{ℕ, ◌≡◌, ◌⊎◌, ◌+◌, ◌*◌, ◌<◌, ◌^◌, ◌&&◌, List, [], ◌∷◌, false, filter, is_some, length, map, not, None, Ok, Option}
 use Rattle.link_flags.specs.declared.value_flags.RawFlags.{RawFlags}
 use Rattle.link_discarding.specs.Indexed.{AreGroupsOf}
 use Rattle.link_files.specs.Inputs.{objects_in}
@@ -8,20 +8,18 @@ use Rattle.link_rules.specs.declared.refusal.LinkError.TheVariants.{Memory}
 use Rattle.link_rules.specs.Answer.{BatchesEnd, IsRefused}
 use Rattle.link_rules.specs.FinalFlags.{final_flags}
 use Rattle.link_rules.specs.Marking.{flags_before, marked_flags}
-use Rattle.link_rules.specs.Names.{first_definition}
 use Rattle.link_rules.specs.Places.{Bytes, each_from}
 use Rattle.link_rules.specs.Refusals.{duplicate_lines, first_cause, limit_refusal, linker_script_cause, text_refusal, unless_none}
 use Rattle.link_rules.specs.Rivals.{reference_table, versioned_table}
 use Rattle.link_rules.specs.Rules.{PlatformRules, rules_of, taken_text}
 use Rattle.link_rules.specs.Selection.{Selection, selection_of}
-use Rattle.link_rules.specs.Undefined.{boundary_makers, final_table, is_boundary_maker, is_last_alike, left_undefined, resolved}
+use Rattle.link_rules.specs.Undefined.{boundary_makers, is_boundary_maker, is_last_alike, left_undefined, resolved}
 use Rattle.link_rules.specs.Visibility.{narrowed_symbol}
 use Rattle.link_rules.specs.World.{World, first_stage}
 use Rattle.link_loader.specs.Holds.{AreRulesOf, HoldsTexts}
-use Rattle.link_mapping.specs.Mapped.{mapping_of}
 use Rattle.link_db.specs.Database.{Database, HasTable, symbol_names}
 use Rattle.link_stage.specs.AtStage.{IsAtStage}
-use Rattle.link_resolve.specs.Known.{IsListed, IsSelection, Known}
+use Rattle.link_resolve.specs.Known.{IsSelection, Known}
 use Rattle.link_resolve.specs.Resolving.{Resolving}
 use Rattle.link_resolve.specs.Settled.{IsEnded, IsSettled}
 

@@ -52,17 +52,11 @@ fn platform(read: Result<Manifest, ManifestError>) -> &'static str {
     }
 }
 
-/// Manifests with a value for each list that has items, and their platforms.
+/// Manifests, and their platforms.
 const READ: &[(&str, &str)] = &[
+    (r#"{"wrap":["w"],"objects":[{"name":"a.o"}]}"#, "elf"),
     (
-        r#"{"entry":"e","wrap":["w"],"defsym":[{"name":"d","targets":["t"]}],"linker_symbols":[{"name":"l","placement":"platform"}],
-            "custom_sections":["c"],"version_script":"{};","objects":[{"name":"a.o","lib_name":"a","sections":2,
-            "symbols":[{"name":"f","place":1,"version":"v"}],"groups":[{"header":1,"signature":0,"members":[0]}]}]}"#,
-        "elf",
-    ),
-    (
-        r#"{"platform":"macho","objects":[{"name":"a.o","symbols":[{"name":"f","place":"common"}]}],
-            "scripts":[{"name":"s","symbols":[{"name":"p"}]}],"stubs":[{"name":"l","strong":["g"]}]}"#,
+        r#"{"platform":"macho","stubs":[{"name":"l","strong":["g"]}]}"#,
         "macho",
     ),
 ];

@@ -1,6 +1,5 @@
-use Rattle.std.proofs.Common.{◌≡◌, ◌∙◌, [], ◌∷◌, Err, ap, arith, length, refl, subst, sym}
+use Rattle.std.proofs.Common.{◌∙◌, [], ◌∷◌, Err, ap, arith, length, refl, subst, sym}
 use Rattle.link_files.specs.GroupFiles.{symbols_in}
-use Rattle.link_files.specs.HeldFiles.{names_in}
 use Rattle.link_flags.specs.FlagWords.{words_of}
 use Rattle.link_groups.specs.Held.{AreGroupsOf}
 use Rattle.link_input.specs.declared.options.Options.{Options}
@@ -8,7 +7,6 @@ use Rattle.link_input.specs.InputFiles.{Batch, batch_of}
 use Rattle.link_loader.specs.Causes.{TellsCause}
 use Rattle.link_loader.specs.Holds.{AreRulesOf, HoldsTexts, platform_of}
 use Rattle.link_mapping.specs.Mapped.{AreListed, Mapped}
-use Rattle.link_rules.specs.declared.refusal.LinkError.{LinkError}
 use Rattle.link_rules.specs.World.{first_stage}
 use Rattle.link_db.proofs.Causes.{tells-through}
 use Rattle.link_db.specs.Database.{Database, symbol_names}

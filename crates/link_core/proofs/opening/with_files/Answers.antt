@@ -1,4 +1,4 @@
-use Rattle.std.proofs.Common.{◌≡◌, ◌∙◌, Err, ap, refl}
+use Rattle.std.proofs.Common.{◌∙◌, Err, ap, refl}
 use Rattle.link_loader.specs.Causes.{IsGiven, TellsCause}
 use Rattle.link_loader.specs.Holds.{platform_of}
 use Rattle.link_rules.specs.Refusals.{text_refusal}

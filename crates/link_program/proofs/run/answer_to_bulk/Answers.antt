@@ -1,5 +1,4 @@
 use Rattle.std.proofs.Common.{subst}
-use Rattle.link_bulk.specs.Bulk.{bulk_objects}
 use Rattle.link_manifest.specs.declared.manifest.Manifest.{Manifest as Described}
 use Rattle.link_program.specs.declared.run.Told.TheVariants.{Summary}
 use Rattle.link_program.specs.Outcome.{IsWorldText, given_of, told_text, world_of_manifest}

@@ -1,4 +1,4 @@
-use Rattle.std.proofs.Common.{rules, arith, ◌≡◌, ◌∙◌, ◌==◌, ℕ, List, ap, not, sym}
+use Rattle.std.proofs.Common.{rules, ◌≡◌, ◌∙◌, ◌==◌, ℕ, List, ap, not, sym}
 use Rattle.std.specs.Prelude.{count_by}
 use Rattle.link_closure.specs.Closure.{is_marked}
 use Rattle.link_files.specs.Inputs.{objects_in}

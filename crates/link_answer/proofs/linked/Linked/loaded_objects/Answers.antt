@@ -1,4 +1,4 @@
-use Rattle.std.proofs.Common.{rules, ◌≡◌, ◌∙◌, ℕ, Bool, List, ap}
+use Rattle.std.proofs.Common.{rules, ◌∙◌, ℕ, Bool, List, ap}
 use Rattle.std.specs.Prelude.{filter}
 use Rattle.std.specs.List.{enumerate_from}
 use Rattle.std.proofs.lemmas.Fn.{filter_same}
@@ -6,7 +6,6 @@ use Rattle.link_closure.specs.Closure.{is_marked}
 use Rattle.link_files.specs.Inputs.{objects_in}
 use Rattle.link_groups.specs.declared.group.Group.{Group}
 use Rattle.link_input.specs.ObjectFile.{ObjectFile}
-use Rattle.link_resolve.specs.Known.{Known}
 use Rattle.link_answer.proofs.linked.Linked.loaded_objects.Goals as goal
 
 -- what stays are the loaded objects
