@@ -19,6 +19,8 @@ import sys
 import tempfile
 import time
 
+from words import program_and_counts
+
 
 def member(i, targets):
     symbols = [{"name": f"t{i}", "place": 1}]
@@ -81,12 +83,7 @@ def show(name, references, count, workers, size, symbols, seconds, held):
 
 
 def main():
-    words = sys.argv[1:]
-    top = os.path.dirname(os.path.dirname(os.path.abspath(__file__)))
-    program = os.path.join(top, "crates/link_program/out/link_program")
-    if words and not words[0].isdigit():
-        program = os.path.abspath(words.pop(0))
-    counts = [int(word) for word in words] or [1000, 10000, 100000]
+    program, counts = program_and_counts("link_program", [1000, 10000, 100000])
     print(f"{'shape':>6} {'refs':>4} {'members':>8} {'workers':>7} {'MB':>7} {'symbols':>8} {'s':>7} {'us/symbol':>9} {'MB held':>8}")
     # First, since what this program holds itself counts as held by what it starts.
     for count in counts:

@@ -14,6 +14,8 @@ last column is the time to add all, to that of the map.
 import os
 import sys
 
+from words import program_and_counts
+
 
 def run(program, kind, symbols, processors):
     """Microseconds of each step, and the most KiB that the program held."""
@@ -39,12 +41,7 @@ def least(runs):
 
 
 def main():
-    words = sys.argv[1:]
-    top = os.path.dirname(os.path.dirname(os.path.abspath(__file__)))
-    program = os.path.join(top, "crates/link_db_cases/out/link_db_cases")
-    if words and not words[0].isdigit():
-        program = os.path.abspath(words.pop(0))
-    counts = [int(word) for word in words] or [100000, 1000000]
+    program, counts = program_and_counts("link_db_cases", [100000, 1000000])
     print(f"{'symbols':>8} {'kind':>4} {'processors':>10} {'add s':>7} {'look up s':>9} {'MB held':>8} {'to map':>6}")
     tasks = [("map", 1)] + [("db", n) for n in (1, 2, 4)]
     for symbols in counts:

@@ -13,6 +13,8 @@ import os
 import sys
 import tempfile
 
+from words import program_and_counts
+
 
 def weak(name):
     return {"name": name, "place": 1, "bind": "weak"}
@@ -45,12 +47,7 @@ def run(program, manifest):
 
 
 def main():
-    words = sys.argv[1:]
-    top = os.path.dirname(os.path.dirname(os.path.abspath(__file__)))
-    program = os.path.join(top, "crates/link_program/out/link_program")
-    if words and not words[0].isdigit():
-        program = os.path.abspath(words.pop(0))
-    counts = [int(word) for word in words] or [1000, 10000, 100000]
+    program, counts = program_and_counts("link_program", [1000, 10000, 100000])
     print(f"{'kind':>5} {'rivals':>7} {'s':>7} {'MB held':>8}")
     for name, make in (("one", one), ("pairs", pairs)):
         for count in counts:
