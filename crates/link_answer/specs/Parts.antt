@@ -6,9 +6,7 @@ use Rattle.link_input.specs.ObjectFile.{ObjectFile}
 use Rattle.link_files.specs.HeldFiles.{HeldFiles, names_in, version_of}
 use Rattle.link_files.specs.Inputs.{objects_in}
 use Rattle.link_rules.specs.declared.linked.GivenVersion.{GivenVersion}
-use Rattle.link_rules.specs.declared.linked.Linked.{Linked as Answer}
-use Rattle.link_rules.specs.declared.linked.LoadedObject.{LoadedObject}
-use Rattle.link_rules.specs.declared.linked.UndefinedName.{UndefinedName}
+use Rattle.link_rules.specs.Linked.{Linked as Answer, LoadedObject, UndefinedName}
 use Rattle.link_rules.specs.Places.{Bytes}
 use Rattle.link_discarding.specs.Indexed.{IndexedGroups}
 use Rattle.link_db.specs.Database.{Database, HasTable, symbol_names}

@@ -10,7 +10,7 @@ use Rattle.link_files.specs.GroupFiles.{symbols_in}
 use Rattle.link_files.specs.HeldFiles.{HeldFiles}
 use Rattle.link_comdat.specs.Selected.{SelectedGroups}
 use Rattle.link_rules.specs.declared.linked.GivenVersion.{GivenVersion}
-use Rattle.link_rules.specs.declared.linked.UndefinedName.{UndefinedName}
+use Rattle.link_rules.specs.Linked.{UndefinedName}
 use Rattle.link_rules.specs.Answer.{linked_from, missing_exports}
 use Rattle.link_rules.specs.Names.{Mapping, first_definition}
 use Rattle.link_rules.specs.Places.{Bytes}

@@ -6,7 +6,7 @@ use Rattle.link_bulk.specs.World.{bulk_world}
 use Rattle.std.proofs.lemmas.List.{append-nil}
 use Rattle.link_streams.specs.Streams.{Gives, IsAtEnd}
 use Rattle.std.specs.Prelude.{IfSome}
-use Rattle.link_rules.specs.declared.linked.Linked.{Linked as Answer}
+use Rattle.link_rules.specs.Linked.{Linked as Answer}
 use Rattle.link_rules.specs.declared.refusal.LinkError.{LinkError}
 use Rattle.link_rules.specs.declared.refusal.LinkError.TheVariants as refusal
 use Rattle.link_rules.specs.Answer.{IsRefused}

@@ -8,7 +8,7 @@ use Rattle.link_input.specs.ObjectFile.{ObjectFile}
 use Rattle.link_rules.specs.Report.{report_text}
 use Rattle.link_rules.specs.World.{Given, World, world_of}
 use Rattle.link_rules.specs.Rules.{PlatformRules, elf_like, mach_like}
-use Rattle.link_rules.specs.declared.linked.Linked.{Linked as Answer}
+use Rattle.link_rules.specs.Linked.{Linked as Answer}
 use Rattle.link_rules.specs.Answer.{IsLinked, IsReport, IsRefusalText}
 use Rattle.link_manifest.specs.declared.fault.ManifestFault.{ManifestFault}
 use Rattle.link_manifest.specs.declared.manifest.Manifest.{Manifest as Described}

@@ -6,7 +6,7 @@ use Rattle.std.specs.List.{enumerate_from}
 use Rattle.std.proofs.lemmas.List.Sums.{sum_by-cons}
 use Rattle.link_input.specs.Limits.{total}
 use Rattle.link_input.specs.ObjectFile.{ObjectFile}
-use Rattle.link_rules.specs.declared.linked.LoadedObject.{LoadedObject}
+use Rattle.link_rules.specs.Linked.{LoadedObject}
 use Rattle.link_report.specs.Summary.{comdat_count, comdats_at}
 
 -- an object with its place, as a report tells of it

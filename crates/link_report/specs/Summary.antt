@@ -3,7 +3,7 @@ use Rattle.std.specs.Prelude.{ℕ, ◌-◌, ◌==◌, List, ◌++◌, not, lengt
 use Rattle.std.specs.Option.{option_map_or}
 use Rattle.link_input.specs.Limits.{total}
 use Rattle.link_input.specs.ObjectFile.{ObjectFile}
-use Rattle.link_rules.specs.declared.linked.Linked.{Linked}
+use Rattle.link_rules.specs.Linked.{Linked}
 use Rattle.link_rules.specs.Places.{Bytes}
 
 -- how many of the loaded objects are members: all but the one that stands first

@@ -5,7 +5,7 @@ use Rattle.std.specs.Str.{bytes_eq}
 use Rattle.std.proofs.lemmas.List.Elements.{All-contains, All-from_recursion}
 use Rattle.std.proofs.lemmas.Slice.Eq.{bytes_eq-Decides}
 use Rattle.link_input.specs.Symbols.{Symbol}
-use Rattle.link_rules.proofs.PlainPlaces.{all-places, place-in, places-all}
+use Rattle.link_rules.proofs.ByPlace.{all-places, place-in, places-all}
 use Rattle.link_rules.proofs.Settled.{both_true, listed_in, none_some, nothing_in}
 use Rattle.link_rules.specs.Names.{definitions_of, is_listed, is_version_listed, versioned_definitions_of}
 use Rattle.link_rules.specs.Places.{Bytes, places_from, same_version}

@@ -8,7 +8,7 @@ use Rattle.link_input.specs.Symbols.{Symbol, is_shared}
 use Rattle.link_rules.specs.Flags.{flags_if}
 use Rattle.link_rules.specs.Marking.{visibility_flags}
 use Rattle.link_closure.proofs.Joins.{or_assoc}
-use Rattle.link_rules.proofs.PlainPlaces.{all-places, each-same}
+use Rattle.link_rules.proofs.ByPlace.{all-places, each-same}
 use Rattle.link_rules.proofs.Settled.{slice_index-each_from}
 use Rattle.link_rules.specs.Places.{are_several, contains, each_from, first_of, is_number}
 use Rattle.link_rules.specs.Rivals.{plain_list, versioned_list}

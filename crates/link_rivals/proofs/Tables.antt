@@ -7,7 +7,7 @@ use Rattle.std.proofs.lemmas.List.Elements.{All-contains_itself, All-head, All-t
 use Rattle.link_input.specs.Symbols.{Origin, Symbol, in_object, in_prelude, in_script, in_stub}
 use Rattle.link_input.specs.declared.internal_symbols.SymbolPlacement.{SymbolPlacement}
 use Rattle.link_input.specs.declared.internal_symbols.SymbolPlacement.TheVariants.{Undefined, SectionStart, SectionEnd, TlsEnd, SectionGroupEnd, ForceUndefined, Redirect, LoadBaseAddress, PlatformSpecific}
-use Rattle.link_rules.proofs.PlainPlaces.{AllFrom, all-places, each-each, each-same}
+use Rattle.link_rules.proofs.ByPlace.{AllFrom, all-places, each-each, each-same}
 use Rattle.link_rules.proofs.Settled.{IsListedAt, both_true, listed_in, nothing_in, slice_index-each_from}
 use Rattle.link_rules.specs.Loading.{is_forced_placement}
 use Rattle.link_rules.specs.Names.{definitions_of, first_definition, is_defining, is_listed, is_named}

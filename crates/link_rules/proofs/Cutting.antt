@@ -2,7 +2,7 @@
 use Rattle.std.proofs.Common.{◌≡◌, ℕ, List, [], ◌∷◌, Bool, true, false, Option, None, Some, MatchOption, ap, inl, inr}
 use Rattle.std.specs.Prelude.{◌↔◌, Ok, Err}
 use Rattle.link_input.specs.InputFiles.{Batch}
-use Rattle.link_rules.specs.declared.linked.Linked.{Linked}
+use Rattle.link_rules.specs.Linked.{Linked}
 use Rattle.link_rules.specs.declared.refusal.LinkError.{LinkError}
 use Rattle.link_rules.specs.Places.{Bytes}
 use Rattle.link_rules.specs.Rules.{PlatformRules}

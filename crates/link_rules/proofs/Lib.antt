@@ -1,5 +1,4 @@
 pub mod SortedOnce
-pub mod OneAnswer
 pub mod WorldOnce
 pub mod KeptPlace
 pub mod Settled
@@ -15,14 +14,7 @@ pub mod WorkParts
 pub mod Cutting
 pub mod SortedTexts
 pub mod Matched
-pub mod PlainSeen
-pub mod PlainPlaces
-pub mod PlainLists
-pub mod PlainLoading
-pub mod PlainRivals
-pub mod PlainTable
-pub mod PlainFlags
-pub mod PlainAnswer
+pub mod ByPlace
 pub mod NullEntries
 pub mod Files
 pub mod Rounds

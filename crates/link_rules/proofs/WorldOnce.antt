@@ -3,7 +3,7 @@ use Rattle.std.proofs.Common.{◌≡◌, ℕ, List, [], ◌∷◌, Bool, true, f
 use Rattle.std.specs.Prelude.{Ok, Err}
 use Rattle.link_closure.proofs.Least.{one-least}
 use Rattle.link_input.specs.InputFiles.{Batch}
-use Rattle.link_rules.specs.declared.linked.Linked.{Linked}
+use Rattle.link_rules.specs.Linked.{Linked}
 use Rattle.link_rules.specs.declared.refusal.LinkError.{LinkError}
 use Rattle.link_rules.specs.World.{World, Stage, start_of, with_batch}
 use Rattle.link_rules.specs.Loading.{IsLoaded}

@@ -2,10 +2,8 @@
 use Rattle.std.specs.Prelude.{◌≡◌, ◌⊎◌, List, [], ◌∷◌, ◌++◌, map, filter, Bool, true, false, not, Some, None, Result, Ok, Err, is_none, ◌&&◌, MatchOption}
 use Rattle.std.specs.List.{enumerate_from}
 use Rattle.link_closure.specs.Closure.{is_marked}
-use Rattle.link_rules.specs.declared.linked.LoadedObject.{LoadedObject}
+use Rattle.link_rules.specs.Linked.{LoadedObject, UndefinedName, Linked}
 use Rattle.link_rules.specs.declared.linked.KeptGroup.{KeptGroup}
-use Rattle.link_rules.specs.declared.linked.UndefinedName.{UndefinedName}
-use Rattle.link_rules.specs.declared.linked.Linked.{Linked}
 use Rattle.link_rules.specs.declared.refusal.LinkError.{LinkError}
 use Rattle.link_rules.specs.Places.{Bytes}
 use Rattle.link_input.specs.InputFiles.{Batch}

@@ -1,5 +1,5 @@
 pub mod Places
-pub mod Plain
+pub mod Linked
 pub mod Report
 pub mod Flags
 pub mod Matching
@@ -22,5 +22,4 @@ pub mod Refusals
 pub mod Answer
 pub mod Building
 pub mod Examples
-pub mod PlainWorld
 pub mod Work

@@ -5,13 +5,11 @@ use Rattle.std.specs.List.{flat_map}
 use Rattle.link_names.specs.NameText.{name_text}
 use Rattle.link_flags.specs.FlagText.{flags_text}
 use Rattle.link_syntax.specs.ErrorText.{error_text}
-use Rattle.link_rules.specs.declared.linked.LoadedObject.{LoadedObject}
+use Rattle.link_rules.specs.Linked.{LoadedObject, UndefinedName, Linked}
 use Rattle.link_rules.specs.declared.linked.KeptGroup.{KeptGroup}
 use Rattle.link_flags.specs.declared.value_flags.ValueFlags.{ValueFlags}
 use Rattle.link_rules.specs.Rivals.{two_steps}
 use Rattle.link_rules.specs.declared.linked.GivenVersion.{GivenVersion}
-use Rattle.link_rules.specs.declared.linked.UndefinedName.{UndefinedName}
-use Rattle.link_rules.specs.declared.linked.Linked.{Linked}
 use Rattle.link_rules.specs.declared.refusal.ScriptOrigin.{ScriptOrigin}
 use Rattle.link_rules.specs.declared.refusal.ScriptOrigin.TheVariants.{VersionScript, ExportList, ForcedExport, LinkerScript}
 use Rattle.link_input.specs.declared.too_many.TooManyKind.{TooManyKind}

@@ -16,7 +16,7 @@ ghost use Rattle.link_script.specs.Filter.{Filter, EntriesHave};
 ghost use Rattle.link_script.specs.Lookup.{Asked};
 ghost use Rattle.link_script.specs.Rank.{IsBest, filters_in};
 ghost use Rattle.link_script.specs.Script.{IsVersionBy};
-ghost use Rattle.link_rules.specs.declared.linked.Linked.{Linked};
+ghost use Rattle.link_rules.specs.Linked.{Linked};
 ghost use Rattle.link_rules.specs.declared.refusal.LinkError.{LinkError};
 ghost use Rattle.link_rules.specs.Places.{Bytes};
 ghost use Rattle.link_rules.specs.Matching.{entry_fits, rank, version_by};

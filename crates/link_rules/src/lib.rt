@@ -2,18 +2,13 @@
 //! definitions alone; `link_core` computes what they say.
 #![tactic(auto)]
 
-mod laws;
 mod laws_examples;
-mod laws_plain;
 mod laws_work;
 mod laws_world;
 mod linked;
 mod refusal;
-mod symbol;
 
-pub use laws::{one_answer, worked_examples};
 pub use laws_examples::definitions_at_work;
-pub use laws_plain::plain_links;
 pub use laws_work::{
     each_stage_has_its_loaded_objects, items_are_their_object,
     stages_have_the_symbols_of_their_files, work_is_the_link,
@@ -23,6 +18,5 @@ pub use laws_world::{
     platforms_have_these_rules, sorted_texts_are_sorted, texts_are_matched,
     the_cutting_does_not_show, undefined_entries_are_references,
 };
-pub use linked::{GivenVersion, KeptGroup, Linked, LoadedObject, UndefinedName};
+pub use linked::{GivenVersion, KeptGroup};
 pub use refusal::{LinkError, ScriptOrigin};
-pub use symbol::Symbol;
