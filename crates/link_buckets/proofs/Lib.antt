@@ -1,6 +1,7 @@
 pub mod Keys
+pub mod Chains
 pub mod Search
-pub mod Noting
+pub mod Hashes
 pub mod Changes
 pub mod Rounds
 pub mod Growing

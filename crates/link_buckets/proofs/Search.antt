@@ -1,60 +1,134 @@
--- The place of a key, found by its hash number.
-use Rattle.std.proofs.Common.{◌≡◌, ◌∙◌, ◌+◌, ◌&&◌, ℕ, suc, Bool, true, false, cond, List, [], ◌∷◌, Option, Some, None, refl, sym, ap, subst, arith, nat_eq, find, drop}
+-- The place of a key, found by the chain of its hash number.
+use Rattle.std.proofs.Common.{◌≡◌, ◌∙◌, ◌+◌, ◌<◌, ◌≤◌, ◌&&◌, ◌⊎◌, inl, inr, ℕ, zero, suc, Bool, true, false, List, [], ◌∷◌, length, Option, Some, None, refl, sym, ap, subst, arith}
 use Rattle.std.specs.Prelude.{slice_get}
-use Rattle.std.specs.Option.{option_map_or}
-use Rattle.std.proofs.lemmas.Bool.Decides.{nat_tests}
-use Rattle.std.proofs.lemmas.Option.{same_Some}
+use Rattle.std.specs.Option.{option_map, option_map_or}
+use Rattle.std.proofs.Math.Nat.{eq-or-lt_of_le}
+use Rattle.std.proofs.lemmas.List.{length-map}
+use Rattle.std.proofs.lemmas.Option.{same_Some, slice_get-map, slice_get_within}
 use Rattle.link_names.specs.NameHash.{fnv_1a}
 use Rattle.link_buckets.specs.declared.head.Head.{Head}
 use Rattle.link_buckets.specs.declared.label.Label.{Label}
+use Rattle.link_buckets.specs.Chains.{IsLast, slot_of}
 use Rattle.link_buckets.specs.Heads.{HaveKeys, hashes_of, is_head, is_labelled, is_used}
 use Rattle.link_buckets.specs.Keys.{Key, leads_to, number_of}
-use Rattle.link_buckets.specs.Places.{places_of, places_from, place_from}
-use Rattle.link_buckets.proofs.Keys.{and-both, number_there, key_there, one_key_there}
+use Rattle.link_buckets.specs.Places.{place_from}
+use Rattle.link_buckets.proofs.Keys.{and-both, leads_there, number_there, key_there, one_key_there}
 
--- one place more, where the first that passes is known of the others
-found_step : (test : ℕ → Bool) (at : ℕ) (places : List ℕ) (o : Option ℕ) (passes has_number : Bool) → test at ≡ passes → (passes ≡ true → has_number ≡ true) → find test places ≡ o
-    → find test (cond has_number (at ∷ places) places) ≡ cond passes (Some at) o
-found_step test at places o true true here only rest = rw here refl
-found_step test at places o false true here only rest = rw here rest
-found_step test at places o true false here only rest = let no : false ≡ true = only refl in absurd cc
-found_step test at places o false false here only rest = rest
-
--- equal numbers pass the test
-same_number : (a b : ℕ) → a ≡ b → nat_eq a b ≡ true
-same_number a b e = grind (arith, nat_tests)
-
--- Where only heads with this hash number pass, the first that passes is the first of that number that passes.
-pub found_from : (test : ℕ → Bool) (p : Head → Bool) (n at : ℕ) (heads : List Head)
-    → ((k : ℕ) (h : Head) → slice_get heads k ≡ Some h → test (at + k) ≡ p h)
-    → ((k : ℕ) (h : Head) → slice_get heads k ≡ Some h → p h ≡ true → h.hash ≡ n)
-    → find test (places_from at n (hashes_of heads)) ≡ place_from p at heads
-found_from test p n at [] same only = refl
-found_from test p n at (h ∷ hs) same only =
-    let e : at + 0 ≡ at = omega arith in
-    let here : test at ≡ p h = subst (λ (i : ℕ). test i ≡ p h) e (same 0 h refl) in
-    let rest : find test (places_from (at + 1) n (hashes_of hs)) ≡ place_from p (at + 1) hs = found_from test p n (at + 1) hs
-    (λ k g is. let s : at + suc k ≡ at + 1 + k = omega arith in subst (λ (i : ℕ). test i ≡ p g) s (same (suc k) g is))
-    (λ k g is. only (suc k) g is) in
-    found_step test at (places_from (at + 1) n (hashes_of hs)) (place_from p (at + 1) hs) (p h) (nat_eq h.hash n) here (λ f. same_number h.hash n (only 0 h refl f)) rest
+-- ---- lists
 
 -- the head at a place passes
 abbrev pub passes_at : (Head → Bool) → List Head → ℕ → Bool
 passes_at p heads i = option_map_or p (slice_get heads i) false
 
--- the first place that passes is among the places of the only hash number that passes
-pub found_by_number : (p : Head → Bool) (heads : List Head) (n : ℕ) (places : List ℕ) → ((k : ℕ) (h : Head) → slice_get heads k ≡ Some h → p h ≡ true → h.hash ≡ n) → places ≡ places_of n (hashes_of heads)
-    → find (passes_at p heads) places ≡ place_from p 0 heads
-found_by_number p heads n places only placed =
-    let all : find (passes_at p heads) (places_of n (hashes_of heads)) ≡ place_from p 0 heads =
-    found_from (passes_at p heads) p n 0 heads
-    (λ k h is. let z : 0 + k ≡ k = omega arith in rw (z, is) refl)
-    only in
-    ap (find (passes_at p heads)) placed ∙ all
+-- only heads with this hash number pass
+abbrev pub IsOnly : (Head → Bool) → List Head → ℕ → Type 0
+IsOnly p heads n = (k : ℕ) (h : Head) → slice_get heads k ≡ Some h → p h ≡ true → h.hash ≡ n
+
+-- no two heads pass
+abbrev pub IsAlone : (Head → Bool) → List Head → Type 0
+IsAlone p heads = (a b : ℕ) (g h : Head) → slice_get heads a ≡ Some g → slice_get heads b ≡ Some h → p g ≡ true → p h ≡ true → a ≡ b
+
+-- what does not pass fails
+pub fails : (b : Bool) → (b ≡ true → ⊥) → b ≡ false
+fails true never = absurd (never refl)
+fails false never = refl
+
+-- no place is found where no head passes
+no_place : (p : Head → Bool) (heads : List Head) (at : ℕ) → ((k : ℕ) (h : Head) → slice_get heads k ≡ Some h → p h ≡ false) → None ≡ place_from p at heads
+no_place p [] at never = refl
+no_place p (h ∷ heads) at never = rw (never 0 h refl) (no_place p heads (at + 1) (λ k g is. never (suc k) g is))
+
+-- the place of the only head that passes is found
+only_place : (p : Head → Bool) (heads : List Head) (at i : ℕ) (h : Head) → slice_get heads i ≡ Some h → p h ≡ true → ((k : ℕ) (g : Head) → slice_get heads k ≡ Some g → p g ≡ true → k ≡ i) → Some (at + i) ≡ place_from p at heads
+only_place p [] at i h is passes alone = absurd cc
+only_place p (g ∷ heads) at zero h is passes alone = let here : p g ≡ true = ap p (same_Some g h is) ∙ passes in let e : at + 0 ≡ at = omega arith in rw (here, e) refl
+only_place p (g ∷ heads) at (suc i) h is passes alone =
+    let other : p g ≡ false = fails (p g) (λ one. let no : 0 ≡ suc i = alone 0 g refl one in absurd (omega (arith, no))) in
+    let e : at + suc i ≡ at + 1 + i = omega arith in
+    rw (other, e) (only_place p heads (at + 1) i h is passes (λ k f at_k one. let same : suc k ≡ suc i = alone (suc k) f at_k one in omega (arith, same)))
+
+-- the head at a place in the list
+head_at : (heads : List Head) (i : ℕ) → i < length heads → (h : Head) × (slice_get heads i ≡ Some h)
+head_at [] i lt = absurd (omega (arith, lt))
+head_at (h ∷ heads) zero lt = (h, refl)
+head_at (h ∷ heads) (suc i) lt = let lower : i < length heads = omega (arith, lt) in head_at heads i lower
+
+-- its hash number
+hash_at : (heads : List Head) (i : ℕ) (h : Head) → slice_get heads i ≡ Some h → slice_get (hashes_of heads) i ≡ Some h.hash
+hash_at heads i h is = slice_get-map (λ (g : Head). g.hash) heads i ∙ ap (option_map (λ (g : Head). g.hash)) is
+
+-- one number is below another, or not
+split : (a b : ℕ) → (a < b) ⊎ (b ≤ a)
+split a zero = inr (omega arith)
+split zero (suc b) = inl (omega arith)
+split (suc a) (suc b) = elim (split a b) [ inl lt ↦ inl (omega (arith, lt)) | inr le ↦ inr (omega (arith, le)) ]
+
+-- ---- walks
+
+-- The heads from the last on were tried, of those of a slot: none passes. The last is 1 + a place, or 0.
+pub record IsWalked (p : Head → Bool) (heads : List Head) (count slot last : ℕ) : Type 0 where
+  within : last ≤ length heads
+  tried : (i : ℕ) (h : Head) → slice_get heads i ≡ Some h → last ≤ i → p h ≡ false
+  there : (i : ℕ) (h : Head) → last ≡ i + 1 → slice_get heads i ≡ Some h → slot_of count h.hash ≡ slot
+
+-- a walk begins at the last of all heads in the slot
+pub walk_start : (p : Head → Bool) (heads : List Head) (count n last : ℕ) → IsOnly p heads n → IsLast count (hashes_of heads) (slot_of count n) (length (hashes_of heads)) last → IsWalked p heads count (slot_of count n) last
+walk_start p heads count n last only is = record {
+  within = omega (arith, is.within, length-map heads (λ (h : Head). h.hash));
+  tried = λ i h at le. fails (p h) (λ one.
+      let inside : i < length (hashes_of heads) = slice_get_within (hashes_of heads) i h.hash (hash_at heads i h at) in
+      is.none_behind i h.hash (hash_at heads i h at) le inside (ap (slot_of count) (only i h at one)));
+  there = λ i h e at. is.there i h.hash e (hash_at heads i h at);
+}
+
+-- the last before a place of a walk
+pub walked_last : (p : Head → Bool) (heads : List Head) (count slot place last : ℕ) → IsWalked p heads count slot (place + 1) → ((number : ℕ) → slice_get (hashes_of heads) place ≡ Some number → IsLast count (hashes_of heads) (slot_of count number) place last) → IsLast count (hashes_of heads) slot place last
+walked_last p heads count slot place last walked before =
+    let inside : place < length heads = omega (arith, walked.within) in
+    let at = head_at heads place inside in
+    subst (λ (s : ℕ). IsLast count (hashes_of heads) s place last) (walked.there place at.0 refl at.1) (before at.0.hash (hash_at heads place at.0 at.1))
+
+-- a walk goes on where the head at the place fails
+pub walk_step : (p : Head → Bool) (heads : List Head) (count n place last : ℕ) → IsOnly p heads n → IsWalked p heads count (slot_of count n) (place + 1) → passes_at p heads place ≡ false → IsLast count (hashes_of heads) (slot_of count n) place last → IsWalked p heads count (slot_of count n) last
+walk_step p heads count n place last only walked failed is = record {
+  within = omega (arith, is.within, walked.within);
+  tried = λ i h at le. fails (p h) (λ one. elim (split place i) [
+    | inl lt ↦ let after : place + 1 ≤ i = omega (arith, lt) in let no : p h ≡ false = walked.tried i h at after in absurd (differ (p h) one no)
+    | inr rest ↦ elim (eq-or-lt_of_le rest) [
+      | inl e ↦ let no : p h ≡ false = here i h e at in absurd (differ (p h) one no)
+      | inr lower ↦ is.none_behind i h.hash (hash_at heads i h at) le lower (ap (slot_of count) (only i h at one))
+    ]
+  ]);
+  there = λ i h e at. is.there i h.hash e (hash_at heads i h at);
+}
+  where
+    differ : (b : Bool) → b ≡ true → b ≡ false → ⊥
+    differ true e f = absurd cc
+    differ false e f = absurd cc
+
+    here : (i : ℕ) (h : Head) → i ≡ place → slice_get heads i ≡ Some h → p h ≡ false
+    here i h e at = let there : slice_get heads place ≡ Some h = ap (slice_get heads) (sym e) ∙ at in ap (λ (o : Option Head). option_map_or p o false) (sym there) ∙ failed
+
+-- a walk that ends found nothing
+pub walk_end : (p : Head → Bool) (heads : List Head) (count slot last : ℕ) → IsWalked p heads count slot last → last ≡ 0 → None ≡ place_from p 0 heads
+walk_end p heads count slot last walked e = no_place p heads 0 (λ k h is. let le : last ≤ k = omega (arith, e) in walked.tried k h is le)
+
+-- what passes is found
+pub walk_found : (p : Head → Bool) (heads : List Head) (place : ℕ) → IsAlone p heads → passes_at p heads place ≡ true → Some place ≡ place_from p 0 heads
+walk_found p heads place alone passes = by (slice_get heads place) refl
+  where
+    by : (o : Option Head) → slice_get heads place ≡ o → Some place ≡ place_from p 0 heads
+    by None is = let no : false ≡ true = ap (λ (o : Option Head). option_map_or p o false) (sym is) ∙ passes in absurd cc
+    by (Some h) is =
+        let one : p h ≡ true = ap (λ (o : Option Head). option_map_or p o false) (sym is) ∙ passes in
+        let found : Some (0 + place) ≡ place_from p 0 heads = only_place p heads 0 place h is one (λ k g at other. alone k place g h at is other one) in
+        let z : 0 + place ≡ place = omega arith in
+        ap Some (sym z) ∙ found
+
+-- ---- keys
 
 -- only heads with the hash number of a key lead to it
-pub named_only : (names : Label → Option Key) (heads : List Head) (key : Key) (n : ℕ) → HaveKeys names heads → n ≡ fnv_1a key.name
-    → (k : ℕ) (h : Head) → slice_get heads k ≡ Some h → is_head names key h ≡ true → h.hash ≡ n
+pub named_only : (names : Label → Option Key) (heads : List Head) (key : Key) (n : ℕ) → HaveKeys names heads → n ≡ fnv_1a key.name → IsOnly (is_head names key) heads n
 named_only names heads key n have number k h is head =
     let both = and-both (is_used h) (leads_to names h.label key) head in
     number_there names h.label key h.hash (have.numbered k h is both.0) both.1 ∙ sym number
@@ -64,23 +138,28 @@ pub labelled_head : (names : Label → Option Key) (label : Label) (key : Key) (
 labelled_head names label key h is = ap (λ (b : Bool). is_used h && b) (one_key_there names h.label label key is)
 
 -- only heads with the hash number of a label lead to its key
-pub labelled_only : (names : Label → Option Key) (heads : List Head) (label : Label) (n : ℕ) → HaveKeys names heads → number_of names label ≡ Some n
-    → (k : ℕ) (h : Head) → slice_get heads k ≡ Some h → is_labelled names label h ≡ true → h.hash ≡ n
+pub labelled_only : (names : Label → Option Key) (heads : List Head) (label : Label) (n : ℕ) → HaveKeys names heads → number_of names label ≡ Some n → IsOnly (is_labelled names label) heads n
 labelled_only names heads label n have number k h is one =
     let there = key_there names label n number in
     named_only names heads there.0 n have there.2 k h is (sym (labelled_head names label there.0 h there.1) ∙ one)
 
--- no first place, no place
-pub none_noted : (test : ℕ → Bool) (places : List ℕ) (o : Option ℕ) → slice_get places 0 ≡ None → find test places ≡ o → o ≡ None
-none_noted test [] o none is = sym is
-none_noted test (i ∷ places) o none is = absurd cc
+-- one head leads to a key
+pub named_alone : (names : Label → Option Key) (heads : List Head) (key : Key) → HaveKeys names heads → IsAlone (is_head names key) heads
+named_alone names heads key have a b g h at_a at_b one other =
+    let both = and-both (is_used g) (leads_to names g.label key) one in
+    let own : names g.label ≡ Some key = leads_there names g.label key both.1 in
+    have.apart a b g h at_a at_b both.0 (labelled_head names g.label key h own ∙ other)
 
--- the first place passes
-pub first_passes : (test : ℕ → Bool) (places : List ℕ) (i : ℕ) (o : Option ℕ) → slice_get places 0 ≡ Some i → find test places ≡ o → test i ≡ true → Some i ≡ o
-first_passes test [] i o first is passes = absurd cc
-first_passes test (j ∷ places) i o first is passes = let j_passes : test j ≡ true = ap test (same_Some j i first) ∙ passes in sym first ∙ rw j_passes at is
+-- one head leads to the key of a label
+pub labelled_alone : (names : Label → Option Key) (heads : List Head) (label : Label) (n : ℕ) → HaveKeys names heads → number_of names label ≡ Some n → IsAlone (is_labelled names label) heads
+labelled_alone names heads label n have number a b g h at_a at_b one other =
+    let there = key_there names label n number in
+    named_alone names heads there.0 have a b g h at_a at_b (sym (labelled_head names label there.0 g there.1) ∙ one) (sym (labelled_head names label there.0 h there.1) ∙ other)
 
--- only a place behind the first may pass
-pub first_fails : (test : ℕ → Bool) (places : List ℕ) (i : ℕ) (o : Option ℕ) → slice_get places 0 ≡ Some i → find test places ≡ o → test i ≡ false → find test (drop 1 places) ≡ o
-first_fails test [] i o first is fails = absurd cc
-first_fails test (j ∷ places) i o first is fails = let j_fails : test j ≡ false = ap test (same_Some j i first) ∙ fails in rw j_fails at is
+-- a head that is not in use leads to no key
+pub unused : (names : Label → Option Key) (key : Key) (h : Head) → is_used h ≡ false → is_head names key h ≡ false
+unused names key h not_used = rw not_used refl
+
+-- nor to the key of a label
+pub unused_label : (names : Label → Option Key) (label : Label) (h : Head) → is_used h ≡ false → is_labelled names label h ≡ false
+unused_label names label h not_used = rw not_used refl

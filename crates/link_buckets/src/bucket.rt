@@ -1,9 +1,7 @@
 //! A bucket of names.
 
-ghost use Rattle.std.specs.Prelude.{◌≡◌, ℕ};
 ghost use Rattle.link_buckets.specs.Heads.{hashes_of};
-ghost use Rattle.link_buckets.specs.Noted.{places_at};
-ghost use Rattle.link_buckets.specs.Places.{places_of};
+ghost use Rattle.link_buckets.specs.Chains.{AreLinked};
 
 use crate::head::{Definitions, Head, release_all};
 use crate::label::{Label, Names};
@@ -17,11 +15,11 @@ pub struct Bucket {
     heads: Vec<Head>,
     places: Places,
     alloc: Global,
-    ghost placed: { (number : ℕ) → places_at places number ≡ places_of number (hashes_of heads.items) },
+    ghost placed: { AreLinked places (hashes_of heads.items) },
 }
 
 impl Bucket {
-    ghost use Rattle.std.specs.Prelude.{◌++◌, [], ◌∷◌, ◌⊎◌, Option, None, Some, is_some, IsTrue, IfOk, OnOk, OnErr, false, length, map, take, slice_get, option_map, if◌then◌else◌};
+    ghost use Rattle.std.specs.Prelude.{◌≡◌, ℕ, ◌++◌, [], ◌∷◌, ◌⊎◌, Option, None, Some, is_some, IsTrue, IfOk, OnOk, OnErr, false, length, map, take, slice_get, option_map, if◌then◌else◌};
     ghost use Rattle.std.specs.Option.{option_map_or, option_or};
     ghost use Rattle.link_names.specs.NameHash.{fnv_1a};
     ghost use Rattle.link_buckets.specs.declared.label.Label.{Label};
@@ -57,21 +55,26 @@ impl Bucket {
         ensures { heads_in self.new ≡ heads_in self.old }
     {
         self.heads.reserve(more)?;
-        self.places.reserve(more)
+        self.places.reserve(self.heads.as_slice(), more)
     }
 
-    /// Whether the head at the place leads to the name and version.
+    /// Whether the head at the place leads to the name and version. Hash numbers are compared first.
     fn is_named<T: Names>(
         &self,
         table: &T,
         place: usize,
+        hash: u64,
         name: &[u8],
         version: Option<&[u8]>,
     ) -> bool
+        requires keyed { IsKeyed (T.key_at table.now) self.now }
+        requires hashed { hash ≡ fnv_1a name.now }
         ensures { result ≡ option_map_or (is_head (T.key_at table.now) (key_of name.now version.entry)) (slice_get (heads_in self.now) place) false }
     {
         match self.heads.get(place) {
-            Some(head) => head.is_used() && table.has_key(head.label, name, version),
+            Some(head) => {
+                head.hash == hash && head.is_used() && table.has_key(head.label, name, version)
+            }
             None => false,
         }
     }
@@ -88,14 +91,13 @@ impl Bucket {
         requires hashed { hash ≡ fnv_1a name.now }
         ensures { result ≡ place_from (is_head (T.key_at table.now) (key_of name.now version.entry)) 0 (heads_in self.now) }
     {
-        let first = self.places.first(hash)?;
-        if self.is_named(table, first, name, version) {
-            return Some(first);
-        }
-        for place in self.places.later(hash) {
-            if self.is_named(table, *place, name, version) {
-                return Some(*place);
+        let mut last = self.places.last(hash);
+        'heads: while last > 0 {
+            let place = last - 1;
+            if self.is_named(table, place, hash, name, version) {
+                return Some(place);
             }
+            last = self.places.before(place);
         }
         None
     }
@@ -116,12 +118,16 @@ impl Bucket {
         Some(&self.heads[place])
     }
 
-    /// Whether the head at the place leads to the key of the label.
-    fn is_labelled<T: Names>(&self, table: &T, place: usize, label: Label) -> bool
+    /// Whether the head at the place leads to the key of the label. Hash numbers are compared first.
+    fn is_labelled<T: Names>(&self, table: &T, place: usize, hash: u64, label: Label) -> bool
+        requires keyed { IsKeyed (T.key_at table.now) self.now }
+        requires hashed { number_of (T.key_at table.now) label ≡ Some hash }
         ensures { result ≡ option_map_or (is_labelled (T.key_at table.now) label) (slice_get (heads_in self.now) place) false }
     {
         match self.heads.get(place) {
-            Some(head) => head.is_used() && table.have_same_key(head.label, label),
+            Some(head) => {
+                head.hash == hash && head.is_used() && table.have_same_key(head.label, label)
+            }
             None => false,
         }
     }
@@ -132,14 +138,13 @@ impl Bucket {
         requires hashed { number_of (T.key_at table.now) label ≡ Some hash }
         ensures { result ≡ place_from (is_labelled (T.key_at table.now) label) 0 (heads_in self.now) }
     {
-        let first = self.places.first(hash)?;
-        if self.is_labelled(table, first, label) {
-            return Some(first);
-        }
-        for place in self.places.later(hash) {
-            if self.is_labelled(table, *place, label) {
-                return Some(*place);
+        let mut last = self.places.last(hash);
+        'heads: while last > 0 {
+            let place = last - 1;
+            if self.is_labelled(table, place, hash, label) {
+                return Some(place);
             }
+            last = self.places.before(place);
         }
         None
     }
@@ -149,10 +154,11 @@ impl Bucket {
         ensures ok { OnOk result (heads_in self.new ≡ heads_in self.old ++ head ∷ []) }
         ensures err { OnErr result (heads_in self.new ≡ heads_in self.old) }
     {
-        let place = self.heads.len();
         let hash = head.hash;
+        self.places
+            .prepare(self.heads.as_slice(), self.heads.len() + 1)?;
         self.heads.push(head)?;
-        if let Err(error) = self.places.note(hash, place) {
+        if let Err(error) = self.places.note(hash) {
             self.heads.pop();
             return Err(error);
         }
@@ -188,7 +194,7 @@ impl Bucket {
             None => self.push_head(Head {
                 label,
                 hash,
-                definitions: Some(Definitions::one(alloc, id)),
+                definitions: Some(Definitions::one(id)),
                 overridden: None,
             }),
         }
@@ -358,6 +364,6 @@ impl Bucket {
         ensures overridden { (names : Label → Option Key) (asked : Key) → overridden_in names self.new asked ≡ overridden_in names self.old asked }
         ensures labels { (names : Label → Option Key) (asked : Key) → label_in names self.new asked ≡ label_in names self.old asked }
     {
-        release_all(self.heads.as_mut_slice(), self.alloc);
+        release_all(self.heads.as_mut_slice());
     }
 }

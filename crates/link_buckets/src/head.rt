@@ -7,32 +7,33 @@ use crate::label::Label;
 use std::alloc::{AllocError, Global};
 use std::marker::Model;
 
-/// The ids of a name's definitions, in order: the first, and those behind it, of which most names have none. A contract sees
-/// the list of the ids.
+/// The ids of a name's definitions, in order: the first, and those behind it, of which most names have none, so that they stand
+/// apart. A contract sees the list of the ids.
 #[derive(Debug, Drop)]
 pub struct Definitions {
     first: u32,
-    later: Vec<u32>,
+    later: Option<Box<Vec<u32>>>,
 }
 
 impl Model for Definitions {
-    ghost use Rattle.std.specs.Prelude.{List, ℕ, ◌∷◌};
+    ghost use Rattle.std.specs.Prelude.{List, ℕ, [], ◌∷◌};
+    ghost use Rattle.std.specs.Option.{option_map_or};
 
     ghost Value = { List ℕ };
 
-    ghost view = { λ d. d.first ∷ d.later.items };
+    ghost view = { λ d. d.first ∷ option_map_or (λ later. later.value.items) d.later [] };
 }
 
 impl Definitions {
     ghost use Rattle.link_buckets.specs.Heads.{without_last};
 
     /// One definition. Takes no memory.
-    pub(crate) fn one(alloc: Global, id: u32) -> Self
+    pub(crate) fn one(id: u32) -> Self
         ensures { result ≡ id ∷ [] }
     {
         Definitions {
             first: id,
-            later: Vec::new(alloc),
+            later: None,
         }
     }
 
@@ -47,15 +48,24 @@ impl Definitions {
     pub fn later(&self) -> &[u32]
         ensures { result.now ≡ drop 1 self.now }
     {
-        self.later.as_slice()
+        match &self.later {
+            Some(later) => later.as_slice(),
+            None => &[],
+        }
     }
 
     /// Adds one at the end.
-    fn push(&mut self, id: u32) -> Result<(), AllocError>
+    fn push(&mut self, alloc: Global, id: u32) -> Result<(), AllocError>
         ensures ok { OnOk result (self.new ≡ self.old ++ id ∷ []) }
         ensures err { OnErr result (self.new ≡ self.old) }
     {
-        self.later.push(id)?;
+        if let Some(later) = &mut self.later {
+            later.push(id)?;
+            return Ok(());
+        }
+        let mut later = Vec::new(alloc);
+        later.push(id)?;
+        self.later = Some(Box::new(alloc, later)?);
         Ok(())
     }
 
@@ -64,14 +74,17 @@ impl Definitions {
         ensures several { IsTrue result ↔ (1 < length self.old) }
         ensures rest { self.new ≡ (if result then without_last 1 self.old else self.old) }
     {
-        self.later.pop().is_some()
+        match &mut self.later {
+            Some(later) => later.pop().is_some(),
+            None => false,
+        }
     }
 
     /// Gives up those behind the first, and their memory.
-    fn release_later(&mut self, alloc: Global)
+    fn release_later(&mut self)
         ensures { self.new ≡ take 1 self.old }
     {
-        self.later = Vec::new(alloc);
+        self.later = None;
     }
 }
 
@@ -133,9 +146,9 @@ impl Head {
         ensures rest { self.new ≡ record self.old { definitions = self.new.definitions } }
     {
         if let Some(definitions) = &mut self.definitions {
-            return definitions.push(id);
+            return definitions.push(alloc, id);
         }
-        self.definitions = Some(Definitions::one(alloc, id));
+        self.definitions = Some(Definitions::one(id));
         Ok(())
     }
 
@@ -150,21 +163,22 @@ impl Head {
             }
         }
     }
+
     /// Gives up the definitions behind the first, and their memory.
-    pub(crate) fn release_later(&mut self, alloc: Global)
+    pub(crate) fn release_later(&mut self)
         ensures { self.new ≡ first_alone self.old }
     {
         if let Some(definitions) = &mut self.definitions {
-            definitions.release_later(alloc);
+            definitions.release_later();
         }
     }
 }
 
 /// Gives up the definitions of each head behind its first.
-pub(crate) fn release_all(heads: &mut [Head], alloc: Global)
+pub(crate) fn release_all(heads: &mut [Head])
     ensures { heads.new ≡ map first_alone heads.old }
 {
     for head in heads.iter_mut() {
-        head.release_later(alloc);
+        head.release_later();
     }
 }

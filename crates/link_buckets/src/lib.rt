@@ -13,6 +13,7 @@ mod places;
 mod runs;
 mod shares;
 mod side_by_side;
+mod slots;
 
 pub use bucket::Bucket;
 pub use buckets::Buckets;

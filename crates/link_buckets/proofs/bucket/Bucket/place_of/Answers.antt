@@ -1,34 +1,51 @@
-use Rattle.std.proofs.Common.{◌≡◌, ◌∙◌, Bool, sym, ap, true, false, find}
+use Rattle.std.proofs.Common.{◌≡◌, ◌∙◌, ◌+◌, ◌-◌, Bool, arith, length, sym, subst}
 use Rattle.link_buckets.specs.declared.head.Head.{Head}
+use Rattle.link_buckets.specs.Chains.{slot_of}
+use Rattle.link_buckets.specs.Heads.{hashes_of, is_head}
 use Rattle.link_buckets.specs.Keys.{key_of}
-use Rattle.link_buckets.specs.Heads.{is_head}
-use Rattle.link_buckets.specs.Noted.{places_at}
-use Rattle.link_buckets.proofs.Search.{found_by_number, named_only, none_noted, first_passes, first_fails, passes_at}
+use Rattle.link_buckets.proofs.Search.{IsWalked, named_only, named_alone, walk_start, walked_last, walk_step, walk_found, walk_end}
 use Rattle.link_buckets.proofs.bucket.Bucket.place_of.Goals as goal
 
-pub returns-in_err-first : goal.returns-in_err-first
-returns-in_err-first g c =
-    let names = g.T.Names.key_at c.args.table.now in
+pub heads-init : goal.heads-init
+heads-init g c =
     let b = c.args.self.now in
-    let p : Head → Bool = is_head names (key_of c.args.name.now c.args.version) in
-    let all = found_by_number p b.heads.items c.args.hash (places_at b.places c.args.hash) (named_only names b.heads.items (key_of c.args.name.now c.args.version) c.args.hash c.requires.keyed c.requires.hashed) (b.placed c.args.hash) in
-    c.from_residual.ensures ∙ sym (none_noted (passes_at p b.heads.items) (places_at b.places c.args.hash) _ (sym c.first.ensures ∙ c.in_err-first.was {u = tt}) all)
+    let key = key_of c.args.name.now c.args.version in
+    let only = named_only (g.T.Names.key_at c.args.table.now) b.heads.items key c.args.hash c.requires.keyed c.requires.hashed in
+    walk_start (is_head (g.T.Names.key_at c.args.table.now) key) b.heads.items (length b.places.slots.items) c.args.hash c.last-last.result only (c.last-last.ensures (hashes_of b.heads.items) b.placed)
 
 pub returns-then-is_named : goal.returns-then-is_named
 returns-then-is_named g c =
-    let names = g.T.Names.key_at c.args.table.now in
     let b = c.args.self.now in
-    let p : Head → Bool = is_head names (key_of c.args.name.now c.args.version) in
-    let all = found_by_number p b.heads.items c.args.hash (places_at b.places c.args.hash) (named_only names b.heads.items (key_of c.args.name.now c.args.version) c.args.hash c.requires.keyed c.requires.hashed) (b.placed c.args.hash) in
-    let here : passes_at p b.heads.items c.in_ok-first.first ≡ true = sym c.is_named.ensures ∙ c.if-is_named.true in
-    first_passes (passes_at p b.heads.items) (places_at b.places c.args.hash) c.in_ok-first.first _ (sym c.first.ensures ∙ c.in_ok-first.was) all here
+    let key = key_of c.args.name.now c.args.version in
+    let alone = named_alone (g.T.Names.key_at c.args.table.now) b.heads.items key c.requires.keyed in
+    walk_found (is_head (g.T.Names.key_at c.args.table.now) key) b.heads.items (c.heads.last - 1) alone (sym c.is_named.ensures ∙ c.if-is_named.true)
 
-pub loop-place-init : goal.loop-place-init
-loop-place-init g c =
-    let names = g.T.Names.key_at c.args.table.now in
+pub heads-smaller : goal.heads-smaller
+heads-smaller g c =
     let b = c.args.self.now in
-    let p : Head → Bool = is_head names (key_of c.args.name.now c.args.version) in
-    let all = found_by_number p b.heads.items c.args.hash (places_at b.places c.args.hash) (named_only names b.heads.items (key_of c.args.name.now c.args.version) c.args.hash c.requires.keyed c.requires.hashed) (b.placed c.args.hash) in
-    let here : passes_at p b.heads.items c.in_ok-first.first ≡ false = sym c.is_named.ensures ∙ c.if-is_named.false in
-    ap (find (passes_at p b.heads.items)) c.later-place-items.ensures
-    ∙ first_fails (passes_at p b.heads.items) (places_at b.places c.args.hash) c.in_ok-first.first _ (sym c.first.ensures ∙ c.in_ok-first.was) all here
+    let p : Head → Bool = is_head (g.T.Names.key_at c.args.table.now) (key_of c.args.name.now c.args.version) in
+    let slot = slot_of (length b.places.slots.items) c.args.hash in
+    let e : c.heads.last ≡ c.heads.last - 1 + 1 = omega (arith, c.heads-test.true) in
+    let walked = subst (IsWalked p b.heads.items (length b.places.slots.items) slot) e c.heads.invariant in
+    let is = walked_last p b.heads.items (length b.places.slots.items) slot (c.heads.last - 1) c.before-last.result walked (λ number here. c.before-last.ensures (hashes_of b.heads.items) number b.placed here) in
+    omega (arith, is.within, e)
+
+pub heads-preserved : goal.heads-preserved
+heads-preserved g c =
+    let b = c.args.self.now in
+    let key = key_of c.args.name.now c.args.version in
+    let p : Head → Bool = is_head (g.T.Names.key_at c.args.table.now) key in
+    let only = named_only (g.T.Names.key_at c.args.table.now) b.heads.items key c.args.hash c.requires.keyed c.requires.hashed in
+    let slot = slot_of (length b.places.slots.items) c.args.hash in
+    let e : c.heads.last ≡ c.heads.last - 1 + 1 = omega (arith, c.heads-test.true) in
+    let walked = subst (IsWalked p b.heads.items (length b.places.slots.items) slot) e c.heads.invariant in
+    let is = walked_last p b.heads.items (length b.places.slots.items) slot (c.heads.last - 1) c.before-last.result walked (λ number here. c.before-last.ensures (hashes_of b.heads.items) number b.placed here) in
+    walk_step p b.heads.items (length b.places.slots.items) c.args.hash (c.heads.last - 1) c.before-last.result only walked (sym c.is_named.ensures ∙ c.if-is_named.false) is
+
+pub returns : goal.returns
+returns g c =
+    let b = c.args.self.now in
+    let key = key_of c.args.name.now c.args.version in
+    let slot = slot_of (length b.places.slots.items) c.args.hash in
+    let e : c.heads.last ≡ 0 = omega (arith, c.heads-test.false) in
+    walk_end (is_head (g.T.Names.key_at c.args.table.now) key) b.heads.items (length b.places.slots.items) slot c.heads.last c.heads.invariant e
