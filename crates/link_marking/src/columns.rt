@@ -3,6 +3,7 @@
 ghost use Rattle.std.specs.Prelude.{◌≡◌, IfOk, map};
 ghost use Rattle.link_files.specs.GroupFiles.{symbols_in};
 ghost use Rattle.link_input.specs.Symbols.{is_shared, object_in, visibility_in};
+ghost use Rattle.link_rules.specs.Names.{is_listed, is_version_listed};
 ghost use Rattle.link_rules.specs.Rivals.{is_in_loaded_regular};
 
 use link_files::Files;
@@ -36,6 +37,32 @@ pub fn object_places<P: Platform>(
     let mut column = Vec::with_capacity(alloc, files.num_symbols())?;
     for (_, symbol) in symbols(files) {
         column.push(symbol.object())?;
+    }
+    Ok(column)
+}
+
+/// Whether the symbol is a definition that is found by its plain name, for each symbol of the files, by its id. The only refusal is want of memory.
+pub fn listed_symbols<P: Platform>(alloc: Global, files: &Files<P>) -> Result<Vec<bool>, AllocError>
+    ensures { IfOk result (λ column. column.items ≡ map is_listed (symbols_in files.now.groups)) }
+{
+    let mut column = Vec::with_capacity(alloc, files.num_symbols())?;
+    for (_, symbol) in symbols(files) {
+        column.push(symbol.is_listed())?;
+    }
+    Ok(column)
+}
+
+/// Whether the symbol is a definition that is found by its name and version, for each symbol of the files, by its id. The only refusal is want
+/// of memory.
+pub fn version_listed_symbols<P: Platform>(
+    alloc: Global,
+    files: &Files<P>,
+) -> Result<Vec<bool>, AllocError>
+    ensures { IfOk result (λ column. column.items ≡ map is_version_listed (symbols_in files.now.groups)) }
+{
+    let mut column = Vec::with_capacity(alloc, files.num_symbols())?;
+    for (_, symbol) in symbols(files) {
+        column.push(symbol.is_version_listed())?;
     }
     Ok(column)
 }

@@ -9,6 +9,7 @@ ghost use Rattle.link_loader.specs.Causes.{TellsCause};
 ghost use Rattle.link_loader.specs.Holds.{platform_of};
 ghost use Rattle.link_rivals.specs.Settled.{IsInside, clash_line};
 ghost use Rattle.link_rivals.specs.Survivors.{Tells};
+ghost use Rattle.link_rules.specs.Names.{is_listed, is_version_listed};
 ghost use Rattle.link_rules.specs.Places.{Bytes, each_from};
 ghost use Rattle.link_rules.specs.Refusals.{duplicate_lines, plain_duplicates, unless_none, versioned_duplicates};
 ghost use Rattle.link_rules.specs.Rivals.{plain_table, reference_table, versioned_table};
@@ -28,7 +29,9 @@ use link_db::SymbolDb;
 use link_flags::{PerSymbolFlags, Visibility};
 use link_ids::SymbolId;
 use link_input::Platform;
-use link_marking::{dynamic_symbols, held_symbols, visibilities};
+use link_marking::{
+    dynamic_symbols, held_symbols, listed_symbols, version_listed_symbols, visibilities,
+};
 use link_rivals::{Clash, Survivors, narrow, settle};
 use link_rules::LinkError;
 use std::alloc::{AllocError, Global};
@@ -37,10 +40,12 @@ use std::alloc::{AllocError, Global};
 fn settle_plain<P: Platform>(
     alloc: Global,
     db: &SymbolDb<P>,
+    found: &[bool],
     survivors: &Survivors,
     table: &mut [SymbolId],
 ) -> Result<Vec<Clash>, AllocError>
     requires listed { IsListed (seen db.now) }
+    requires found { found.now ≡ map is_listed (symbols_in (seen db.now).mapping.files.groups) }
     requires count { length table.old ≡ length (symbols_in (seen db.now).mapping.files.groups) }
     requires columns { length survivors.now.strengths.now ≡ length table.old }
     requires inside { All (λ t. t < length table.old) table.old }
@@ -53,7 +58,7 @@ fn settle_plain<P: Platform>(
     ensures len { length table.new ≡ length table.old }
     ensures told { IfOk result (λ told. All (IsInside (length table.old)) told.items) }
 {
-    let clashes = settle(alloc, survivors, &PlainLists { db }, table)?;
+    let clashes = settle(alloc, survivors, &PlainLists { db, found }, table)?;
     Ok(clashes)
 }
 
@@ -61,10 +66,12 @@ fn settle_plain<P: Platform>(
 fn settle_versioned<P: Platform>(
     alloc: Global,
     db: &SymbolDb<P>,
+    found: &[bool],
     survivors: &Survivors,
     table: &mut [SymbolId],
 ) -> Result<Vec<Clash>, AllocError>
     requires listed { IsListed (seen db.now) }
+    requires found { found.now ≡ map is_version_listed (symbols_in (seen db.now).mapping.files.groups) }
     requires count { length table.old ≡ length (symbols_in (seen db.now).mapping.files.groups) }
     requires columns { length survivors.now.strengths.now ≡ length table.old }
     requires inside { All (λ t. t < length table.old) table.old }
@@ -77,7 +84,7 @@ fn settle_versioned<P: Platform>(
     ensures len { length table.new ≡ length table.old }
     ensures told { IfOk result (λ told. All (IsInside (length table.old)) told.items) }
 {
-    let clashes = settle(alloc, survivors, &VersionedLists { db }, table)?;
+    let clashes = settle(alloc, survivors, &VersionedLists { db, found }, table)?;
     Ok(clashes)
 }
 
@@ -87,9 +94,13 @@ fn settle_names<P: Platform>(
     db: &SymbolDb<P>,
     resolved: &Resolved,
     dynamic: &[bool],
+    found: &[bool],
+    version_found: &[bool],
     table: &mut [SymbolId],
 ) -> Result<(Vec<Clash>, Vec<Clash>), AllocError>
     requires listed { IsListed (seen db.now) }
+    requires found { found.now ≡ map is_listed (symbols_in (seen db.now).mapping.files.groups) }
+    requires version_found { version_found.now ≡ map is_version_listed (symbols_in (seen db.now).mapping.files.groups) }
     requires dynamic { dynamic.now ≡ map (λ x. is_shared x.origin) (symbols_in (seen db.now).mapping.files.groups) }
     requires count { length table.old ≡ length (symbols_in (seen db.now).mapping.files.groups) }
     requires known { length resolved.now.strengths ≡ length (symbols_in (seen db.now).mapping.files.groups) }
@@ -113,8 +124,8 @@ fn settle_names<P: Platform>(
         weak_overrides_common: P::WEAK_SYMBOLS_OVERRIDE_COMMON,
         allow_multiple: db.options().allow_multiple,
     };
-    let plain = settle_plain(alloc, db, &survivors, table)?;
-    let versioned = settle_versioned(alloc, db, &survivors, table)?;
+    let plain = settle_plain(alloc, db, found, &survivors, table)?;
+    let versioned = settle_versioned(alloc, db, version_found, &survivors, table)?;
     Ok((plain, versioned))
 }
 
@@ -125,8 +136,12 @@ fn settle_table<P: Platform>(
     db: &mut SymbolDb<P>,
     resolved: &Resolved,
     dynamic: &[bool],
+    found: &[bool],
+    version_found: &[bool],
 ) -> Result<(Vec<Clash>, Vec<Clash>), AllocError>
     requires listed { IsListed (seen db.old) }
+    requires found { found.now ≡ map is_listed (symbols_in (seen db.old).mapping.files.groups) }
+    requires version_found { version_found.now ≡ map is_version_listed (symbols_in (seen db.old).mapping.files.groups) }
     requires table { HasTable (seen db.old) }
     requires dynamic { dynamic.now ≡ map (λ x. is_shared x.origin) (symbols_in (seen db.old).mapping.files.groups) }
     requires known { length resolved.now.strengths ≡ length (symbols_in (seen db.old).mapping.files.groups) }
@@ -143,7 +158,15 @@ fn settle_table<P: Platform>(
 {
     let _numbers = db.num_symbols();
     let mut table = db.take_definitions();
-    let (plain, versioned) = settle_names(alloc, db, resolved, dynamic, table.as_mut_slice())?;
+    let (plain, versioned) = settle_names(
+        alloc,
+        db,
+        resolved,
+        dynamic,
+        found,
+        version_found,
+        table.as_mut_slice(),
+    )?;
     db.restore_definitions(table);
     Ok((plain, versioned))
 }
@@ -153,9 +176,13 @@ fn narrow_names<P: Platform>(
     db: &SymbolDb<P>,
     visibilities: &[Visibility],
     dynamic: &[bool],
+    found: &[bool],
+    version_found: &[bool],
     flags: &mut PerSymbolFlags,
 )
     requires listed { IsListed (seen db.now) }
+    requires found { found.now ≡ map is_listed (symbols_in (seen db.now).mapping.files.groups) }
+    requires version_found { version_found.now ≡ map is_version_listed (symbols_in (seen db.now).mapping.files.groups) }
     requires visibilities { visibilities.now ≡ map (λ x. visibility_in x.origin) (symbols_in (seen db.now).mapping.files.groups) }
     requires dynamic { dynamic.now ≡ map (λ x. is_shared x.origin) (symbols_in (seen db.now).mapping.files.groups) }
     requires flags { length (words_of flags.old) ≡ length dynamic.now }
@@ -164,8 +191,9 @@ fn narrow_names<P: Platform>(
         → numbers_of (words_of flags.new) ≡ each_from (narrowed_symbol w (numbers_of (words_of flags.old))) 0 w.symbols }
     ensures len { length (words_of flags.new) ≡ length (words_of flags.old) }
 {
-    narrow(&PlainLists { db }, visibilities, dynamic, flags);
-    narrow(&VersionedLists { db }, visibilities, dynamic, flags);
+    narrow(&PlainLists { db, found }, visibilities, dynamic, flags);
+    let found = version_found;
+    narrow(&VersionedLists { db, found }, visibilities, dynamic, flags);
 }
 
 /// Settles rivals in a database, and makes their symbols as visible as the strictest.
@@ -196,11 +224,27 @@ fn settle_rivals<P: Platform>(
     let _numbers = db.num_symbols();
     let dynamic = dynamic_symbols(alloc, db.files())?;
     let visibilities = visibilities(alloc, db.files())?;
-    let (plain, versioned) = settle_table(alloc, db, resolved, dynamic.as_slice())?;
+    let found = listed_symbols(alloc, db.files())?;
+    let version_found = version_listed_symbols(alloc, db.files())?;
+    let (plain, versioned) = settle_table(
+        alloc,
+        db,
+        resolved,
+        dynamic.as_slice(),
+        found.as_slice(),
+        version_found.as_slice(),
+    )?;
     match refuse_duplicates(alloc, db, plain.as_slice(), versioned.as_slice()) {
         Err(error) => Err(error),
         Ok(()) => {
-            narrow_names(db, visibilities.as_slice(), dynamic.as_slice(), flags);
+            narrow_names(
+                db,
+                visibilities.as_slice(),
+                dynamic.as_slice(),
+                found.as_slice(),
+                version_found.as_slice(),
+                flags,
+            );
             db.release_alternatives();
             Ok(())
         }
