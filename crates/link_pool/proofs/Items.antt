@@ -1,0 +1,81 @@
+-- Requests and marks of an item, by their index.
+use Rattle.std.proofs.Common.{◌≡◌, ℕ, zero, suc, ◌<◌, List, [], ◌∷◌, Contains, Some, sym, refl, ap, ◌∙◌, subst, arith, length, get_or, inl, inr}
+use Rattle.std.specs.Prelude.{slice_get}
+use Rattle.link_closure.specs.declared.workload.Mark.{Mark}
+use Rattle.link_closure.specs.declared.workload.Item.{Item}
+use Rattle.link_closure.specs.declared.workload.Workload.{Workload}
+use Rattle.link_claim.specs.declared.view.View.{View}
+use Rattle.link_closure.specs.Workload.{HasItem, Requests, Marks, IsSound}
+use Rattle.link_claim.specs.Views.{MayRequest, MayMark, MayBegin}
+use Rattle.link_claim.specs.Later.{IsLater, HasRead}
+use Rattle.link_closure.proofs.Joins.{contains_later}
+
+-- there is an item of each number
+pub item_at : (its : List Item) (i : ℕ) → i < length its → (it : Item) × (slice_get its i ≡ Some it)
+item_at [] i h = absurd (omega arith)
+item_at (x ∷ xs) zero h = (x, refl)
+item_at (x ∷ xs) (suc i) h = item_at xs i (omega arith)
+
+module _ {X : Type 0} where
+  -- what stands at an index is in the list
+  pub get_contains : (xs : List X) (k : ℕ) (x : X) → slice_get xs k ≡ Some x → Contains xs x
+  get_contains [] k x e = absurd (cc)
+  get_contains (y ∷ ys) zero x e = (0, omega arith, (let same : y ≡ x = cc in same))
+  get_contains (y ∷ ys) (suc k) x e = contains_later y x ys (get_contains ys k x e)
+
+  -- what an index is said to have stands there
+  contains_at : (xs : List X) (k : ℕ) (x : X) → k < length xs → get_or xs k x ≡ x → slice_get xs k ≡ Some x
+  contains_at [] k x h e = absurd (omega arith)
+  contains_at (y ∷ ys) zero x h e = ap Some e
+  contains_at (y ∷ ys) (suc k) x h e = contains_at ys k x (omega arith) e
+
+  -- what is in the list stands at some index
+  pub contains_get : (xs : List X) (x : X) → Contains xs x → (k : ℕ) × (k < length xs) × (slice_get xs k ≡ Some x)
+  contains_get xs x has = (has.0, has.1, contains_at xs has.0 x has.1 has.2)
+
+module _ (w : Workload) (v : View) (i k : ℕ) (same : v.work ≡ w) (begun : Contains v.known_items i) (lt : i < length w.items) where
+  -- a request at an index may be made
+  pub may_request : (f : ℕ) → ((it : Item) → HasItem w i it → Some f ≡ slice_get it.requests k) → MayRequest v f
+  may_request f is =
+      let at = item_at w.items i lt in
+      inr (i, begun, subst (λ (z : Workload). Requests z i f) (sym same) (at.0, at.1, get_contains at.0.requests k f (sym (is at.0 at.1))))
+
+  -- a mark at an index is one of the item's
+  pub marks_at : (m : Mark) → ((it : Item) → HasItem w i it → Some m ≡ slice_get it.marks k) → Marks w i m
+  marks_at m is = let at = item_at w.items i lt in (at.0, at.1, get_contains at.0.marks k m (sym (is at.0 at.1)))
+
+  -- and may be made
+  pub may_mark : (m : Mark) → ((it : Item) → HasItem w i it → Some m ≡ slice_get it.marks k) → MayMark v m
+  may_mark m is = inr (i, begun, subst (λ (z : Workload). Marks z i m) (sym same) (marks_at m is))
+
+-- a root at an index may be asked for
+pub may_request_root : (w : Workload) (v : View) (k f : ℕ) → v.work ≡ w → Some f ≡ slice_get w.roots k → MayRequest v f
+may_request_root w v k f same is = inl (subst (λ (z : Workload). Contains z.roots f) (sym same) (get_contains w.roots k f (sym is)))
+
+-- a root mark at an index may be made
+pub may_mark_root : (w : Workload) (v : View) (k : ℕ) (m : Mark) → v.work ≡ w → Some m ≡ slice_get w.root_marks k → MayMark v m
+may_mark_root w v k m same is = inl (subst (λ (z : Workload). Contains z.root_marks m) (sym same) (get_contains w.root_marks k m (sym is)))
+
+-- an item has been read once it is begun, its requests are made and its marks are listed
+pub has_read : (w : Workload) (v u z : View) (i : ℕ) → v.work ≡ w → IsLater v u → IsLater u z → Contains v.known_items i
+    → ((it : Item) → HasItem w i it → (f : ℕ) → Contains it.requests f → Contains u.known f)
+    → ((it : Item) → HasItem w i it → (m : Mark) → Contains it.marks m → Contains z.marks m) → HasRead z i
+has_read w v u z i same a b begun requests marks =
+    let same' : z.work ≡ w = b.same ∙ a.same ∙ same in
+    record {
+      begun = b.items i (a.items i begun);
+      requests = λ f asked. b.known f (requests asked.0 (subst (λ (x : Workload). HasItem x i asked.0) same' asked.1) f asked.2);
+      marks = λ m has. marks has.0 (subst (λ (x : Workload). HasItem x i has.0) same' has.1) m has.2;
+    }
+
+-- an item may be begun once its file is known
+pub may_begin : (w : Workload) (v : View) (i file : ℕ) → v.work ≡ w → i < length w.items → ((it : Item) → HasItem w i it → file ≡ it.file) → Contains v.known file → MayBegin v i
+may_begin w v i file same lt is known =
+    let at = item_at w.items i lt in
+    (at.0, subst (λ (z : Workload). HasItem z i at.0) (sym same) at.1, subst (Contains v.known) (is at.0 at.1) known)
+
+-- its file is one of the files
+pub file_below : (w : Workload) (v : View) (i file : ℕ) → IsSound w → v.work ≡ w → i < length w.items → ((it : Item) → HasItem w i it → file ≡ it.file) → file < v.work.files
+file_below w v i file sound same lt is =
+    let at = item_at w.items i lt in
+    subst (λ (z : Workload). file < z.files) (sym same) (subst (λ f. f < w.files) (sym (is at.0 at.1)) (sound.items i at.0 at.1))

@@ -1,0 +1,17 @@
+//! The closure of any plan whose items can be read, found by threads that take hints from one another. Nothing rests on
+//! the hints: what they miss is read by one thread in the end.
+#![tactic(auto)]
+
+mod hints;
+mod items_by_file;
+mod pool;
+mod readable;
+mod reading;
+mod roots;
+mod sweep;
+#[cfg(test)]
+mod tests;
+mod worker;
+
+pub use pool::{AllRead, read_all};
+pub use readable::Readable;

@@ -1,0 +1,257 @@
+//! What the threads left is read by one.
+ghost use Rattle.std.specs.Prelude.{◌≡◌, ℕ, ◌<◌, ◌≤◌, length, slice_get, MatchBool, None, Some, IfOk, OnOk};
+ghost use Rattle.std.specs.Bool.{OnTrue};
+ghost use Rattle.link_claim.specs.Later.{IsLater, HasRead};
+ghost use Rattle.link_claim.specs.Views.{MayBegin};
+ghost use Rattle.link_pool.specs.Found.{AreFound, AreNotDue, missing, Visits, Sweeps};
+
+use crate::hints::Listener;
+use crate::items_by_file::ItemsByFile;
+use crate::readable::Readable;
+use crate::reading::read_begun;
+use link_claim::{Gate, Words, WorkSeat};
+use std::alloc::{AllocError, Global};
+
+/// The files that the sweep claimed, whose items are yet to be visited.
+#[derive(Drop)]
+struct ClaimedFiles {
+    files: Vec<usize>,
+}
+
+impl Listener for ClaimedFiles {
+    // A push that is refused drops the file: the next pass comes to its items.
+    fn hear<P: Readable>(&mut self, _plan: &P, file: usize) {
+        let _ = self.files.push(file);
+    }
+}
+
+/// Calls the gate, if this thread began the item.
+fn before<G: Gate>(gate: &G, began: bool, item: usize) {
+    if began {
+        gate.before(item);
+    }
+}
+
+/// The same, once the item was read.
+fn after<G: Gate>(gate: &G, began: bool, item: usize) {
+    if began {
+        gate.after(item);
+    }
+}
+
+/// Begins the item, and reads it even if another did.
+fn read_anyway<P: Readable, G: Gate>(
+    alloc: Global,
+    words: &Words<P>,
+    seat: &mut WorkSeat,
+    plan: &P,
+    gate: &G,
+    claimed: &mut ClaimedFiles,
+    item: usize,
+) -> Result<P::Found, AllocError>
+    requires table { seat.old.table ≡ words.now }
+    requires work { seat.old.view.work ≡ P.work plan.now }
+    requires item { item < length (P.work plan.now).items }
+    requires may { MayBegin seat.old.view item }
+    ensures table { seat.new.table ≡ seat.old.table }
+    ensures later { IsLater seat.old.view seat.new.view }
+    ensures read { HasRead seat.new.view item }
+    ensures found { IfOk result (P.found_in plan.now item) }
+{
+    let began = seat.begin(words, item);
+    before(gate, began, item);
+    let found = read_begun(alloc, words, seat, plan, claimed, item);
+    after(gate, began, item);
+    found
+}
+
+/// Whether the result of the item is missing.
+fn is_missing<T>(results: &[Option<T>], item: usize) -> bool
+    ensures missing { MatchBool result
+        (slice_get results.now item ≡ Some None)
+        (¬ (slice_get results.now item ≡ Some None)) }
+    ensures inside { OnTrue result (item < length results.now) }
+{
+    match results.get(item) {
+        Some(None) => true,
+        _ => false,
+    }
+}
+
+/// Reads the item, if its result is missing and its file is claimed. Whether it did.
+fn visit<P: Readable, G: Gate>(
+    alloc: Global,
+    words: &Words<P>,
+    seat: &mut WorkSeat,
+    plan: &P,
+    gate: &G,
+    claimed: &mut ClaimedFiles,
+    results: &mut [Option<P::Found>],
+    item: usize,
+) -> Result<bool, AllocError>
+    requires table { seat.old.table ≡ words.now }
+    requires work { seat.old.view.work ≡ P.work plan.now }
+    requires wide { length results.old ≡ length (P.work plan.now).items }
+    requires found { AreFound (P.found_in plan.now) seat.old.view results.old }
+    ensures table { seat.new.table ≡ seat.old.table }
+    ensures later { IsLater seat.old.view seat.new.view }
+    ensures found { OnOk result (AreFound (P.found_in plan.now) seat.new.view results.new) }
+    ensures visit { IfOk result (λ b. Visits b results.old seat.old.view results.new seat.new.view item) }
+{
+    if !is_missing(results, item) {
+        return Ok(false);
+    }
+    if !seat.check(words, plan.file_of(item)) {
+        return Ok(false);
+    }
+    let found = read_anyway(alloc, words, seat, plan, gate, claimed, item)?;
+    results[item] = Some(found);
+    Ok(true)
+}
+
+/// Visits each item once. Whether it read one.
+fn pass<P: Readable, G: Gate>(
+    alloc: Global,
+    words: &Words<P>,
+    seat: &mut WorkSeat,
+    plan: &P,
+    gate: &G,
+    claimed: &mut ClaimedFiles,
+    results: &mut [Option<P::Found>],
+) -> Result<bool, AllocError>
+    requires table { seat.old.table ≡ words.now }
+    requires work { seat.old.view.work ≡ P.work plan.now }
+    requires wide { length results.old ≡ length (P.work plan.now).items }
+    requires found { AreFound (P.found_in plan.now) seat.old.view results.old }
+    ensures table { seat.new.table ≡ seat.old.table }
+    ensures later { IsLater seat.old.view seat.new.view }
+    ensures found { OnOk result (AreFound (P.found_in plan.now) seat.new.view results.new) }
+    ensures sweep { IfOk result (λ b. Sweeps b results.old seat.old.view results.new seat.new.view (length (P.work plan.now).items)) }
+{
+    let mut more = false;
+    for item in 0..plan.items() {
+        let read = visit(alloc, words, seat, plan, gate, claimed, results, item)?;
+        more |= read;
+    }
+    Ok(more)
+}
+
+/// Visits each item of the file. No clause says that it does, since a further pass would come to what it left out.
+fn visit_file<P: Readable, G: Gate>(
+    alloc: Global,
+    words: &Words<P>,
+    seat: &mut WorkSeat,
+    plan: &P,
+    gate: &G,
+    claimed: &mut ClaimedFiles,
+    results: &mut [Option<P::Found>],
+    items: &ItemsByFile,
+    file: usize,
+) -> Result<(), AllocError>
+    requires table { seat.old.table ≡ words.now }
+    requires work { seat.old.view.work ≡ P.work plan.now }
+    requires wide { length results.old ≡ length (P.work plan.now).items }
+    requires found { AreFound (P.found_in plan.now) seat.old.view results.old }
+    ensures table { seat.new.table ≡ seat.old.table }
+    ensures later { IsLater seat.old.view seat.new.view }
+    ensures found { OnOk result (AreFound (P.found_in plan.now) seat.new.view results.new) }
+    ensures fewer { OnOk result (missing results.new ≤ missing results.old) }
+{
+    let mut next = items.last_of(file);
+    for _ in 0..plan.items() {
+        let Some(item) = next else {
+            return Ok(());
+        };
+        visit(alloc, words, seat, plan, gate, claimed, results, item)?;
+        next = items.before(item);
+    }
+    Ok(())
+}
+
+/// Visits the items of the claimed files, and of those that are claimed thereby: no more than there are, since no file is
+/// claimed twice.
+fn visit_claimed<P: Readable, G: Gate>(
+    alloc: Global,
+    words: &Words<P>,
+    seat: &mut WorkSeat,
+    plan: &P,
+    gate: &G,
+    claimed: &mut ClaimedFiles,
+    results: &mut [Option<P::Found>],
+) -> Result<(), AllocError>
+    requires table { seat.old.table ≡ words.now }
+    requires work { seat.old.view.work ≡ P.work plan.now }
+    requires wide { length results.old ≡ length (P.work plan.now).items }
+    requires found { AreFound (P.found_in plan.now) seat.old.view results.old }
+    ensures table { seat.new.table ≡ seat.old.table }
+    ensures later { IsLater seat.old.view seat.new.view }
+    ensures found { OnOk result (AreFound (P.found_in plan.now) seat.new.view results.new) }
+    ensures fewer { OnOk result (missing results.new ≤ missing results.old) }
+{
+    if claimed.files.is_empty() {
+        return Ok(());
+    }
+    let items = ItemsByFile::of_plan(alloc, plan)?;
+    for _ in 0..plan.files() {
+        let Some(file) = claimed.files.pop() else {
+            return Ok(());
+        };
+        visit_file(
+            alloc, words, seat, plan, gate, claimed, results, &items, file,
+        )?;
+    }
+    Ok(())
+}
+
+/// Visits each item, and then those of the files that it claimed thereby. Whether it read one.
+fn sweep<P: Readable, G: Gate>(
+    alloc: Global,
+    words: &Words<P>,
+    seat: &mut WorkSeat,
+    plan: &P,
+    gate: &G,
+    results: &mut [Option<P::Found>],
+) -> Result<bool, AllocError>
+    requires table { seat.old.table ≡ words.now }
+    requires work { seat.old.view.work ≡ P.work plan.now }
+    requires wide { length results.old ≡ length (P.work plan.now).items }
+    requires found { AreFound (P.found_in plan.now) seat.old.view results.old }
+    ensures table { seat.new.table ≡ seat.old.table }
+    ensures later { IsLater seat.old.view seat.new.view }
+    ensures found { OnOk result (AreFound (P.found_in plan.now) seat.new.view results.new) }
+    ensures sweep { IfOk result (λ b. Sweeps b results.old seat.old.view results.new seat.new.view (length (P.work plan.now).items)) }
+{
+    let mut claimed = ClaimedFiles {
+        files: Vec::new(alloc),
+    };
+    if !pass(alloc, words, seat, plan, gate, &mut claimed, results)? {
+        return Ok(false);
+    }
+    visit_claimed(alloc, words, seat, plan, gate, &mut claimed, results)?;
+    Ok(true)
+}
+
+/// Reads each item of a claimed file whose result is missing, until there is none.
+pub(crate) fn sweep_all<P: Readable, G: Gate>(
+    alloc: Global,
+    words: &Words<P>,
+    seat: &mut WorkSeat,
+    plan: &P,
+    gate: &G,
+    results: &mut [Option<P::Found>],
+) -> Result<(), AllocError>
+    requires table { seat.old.table ≡ words.now }
+    requires work { seat.old.view.work ≡ P.work plan.now }
+    requires wide { length results.old ≡ length (P.work plan.now).items }
+    requires found { AreFound (P.found_in plan.now) seat.old.view results.old }
+    ensures table { seat.new.table ≡ seat.old.table }
+    ensures later { IsLater seat.old.view seat.new.view }
+    ensures found { OnOk result (AreFound (P.found_in plan.now) seat.new.view results.new) }
+    ensures left { OnOk result (AreNotDue results.new seat.new.view (length (P.work plan.now).items)) }
+{
+    let mut more = true;
+    while more {
+        more = sweep(alloc, words, seat, plan, gate, results)?;
+    }
+    Ok(())
+}

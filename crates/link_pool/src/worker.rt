@@ -1,0 +1,158 @@
+//! One thread's work.
+ghost use Rattle.std.specs.Prelude.{◌≡◌, ◌∷◌, ◌<◌, length, All, MatchBool, MatchOption, IfOk, IfSome, OnOk};
+ghost use Rattle.std.specs.Bool.{OnTrue};
+ghost use Rattle.link_claim.specs.Later.{IsLater};
+ghost use Rattle.link_pool.specs.Found.{IsFound, IsBegun};
+ghost use Rattle.link_pool.specs.Jobs.{AllFound, AreKept, IsReady, IsBack};
+
+use crate::hints::{Hint, Hints};
+use crate::readable::Readable;
+use crate::reading::read_begun;
+use link_claim::{Gate, Words, WorkSeat};
+use std::alloc::{AllocError, Global};
+
+/// How many turns in a row without a hint end a worker.
+const IDLE_TURNS: u32 = 64;
+
+/// What one thread begins with.
+#[derive(Drop)]
+pub(crate) struct Job {
+    pub(crate) seat: WorkSeat,
+    pub(crate) hints: Hints,
+}
+
+/// What was found in an item.
+#[derive(Drop)]
+pub(crate) struct Finding<T> {
+    pub(crate) item: usize,
+    pub(crate) found: T,
+}
+
+/// What one thread hands back.
+#[derive(Drop)]
+pub(crate) struct Back<T> {
+    pub(crate) seat: WorkSeat,
+    pub(crate) findings: Vec<Finding<T>>,
+}
+
+/// Begins the item of a hint, if there is such an item and its file is claimed. Whether this call began it.
+fn begin_hinted<P: Readable>(words: &Words<P>, seat: &mut WorkSeat, plan: &P, hint: Hint) -> bool
+    requires table { seat.old.table ≡ words.now }
+    requires work { seat.old.view.work ≡ P.work plan.now }
+    ensures table { seat.new.table ≡ seat.old.table }
+    ensures later { IsLater seat.old.view seat.new.view }
+    ensures begun { OnTrue result (IsBegun (P.work plan.now) seat.new.view hint.item) }
+    ensures begins { MatchBool result
+        (seat.new.view.begins ≡ hint.item ∷ seat.old.view.begins)
+        (seat.new.view.begins ≡ seat.old.view.begins) }
+{
+    let Hint { file, item } = hint;
+    if item >= plan.items() {
+        return false;
+    }
+    if plan.file_of(item) != file {
+        return false;
+    }
+    if !seat.check(words, file) {
+        return false;
+    }
+    seat.begin(words, item)
+}
+
+/// Reads the item of a hint, if its file is claimed and nobody began it.
+fn follow<P: Readable, G: Gate>(
+    alloc: Global,
+    words: &Words<P>,
+    seat: &mut WorkSeat,
+    plan: &P,
+    gate: &G,
+    hints: &mut Hints,
+    hint: Hint,
+) -> Result<Option<Finding<P::Found>>, AllocError>
+    requires table { seat.old.table ≡ words.now }
+    requires work { seat.old.view.work ≡ P.work plan.now }
+    ensures table { seat.new.table ≡ seat.old.table }
+    ensures later { IsLater seat.old.view seat.new.view }
+    ensures found { IfOk result (λ r. IfSome r (λ f. IsFound (P.found_in plan.now) seat.new.view f.item f.found)) }
+    ensures begins { IfOk result (λ r. MatchOption r
+        (seat.new.view.begins ≡ seat.old.view.begins)
+        (λ f. seat.new.view.begins ≡ f.item ∷ seat.old.view.begins)) }
+{
+    if !begin_hinted(words, seat, plan, hint) {
+        return Ok(None);
+    }
+    let item = hint.item;
+    gate.before(item);
+    let found = read_begun(alloc, words, seat, plan, hints, item);
+    gate.after(item);
+    Ok(Some(Finding {
+        item,
+        found: found?,
+    }))
+}
+
+/// Follows a hint, and writes down what it found.
+fn turn<P: Readable, G: Gate>(
+    alloc: Global,
+    words: &Words<P>,
+    seat: &mut WorkSeat,
+    plan: &P,
+    gate: &G,
+    hints: &mut Hints,
+    findings: &mut Vec<Finding<P::Found>>,
+    hint: Hint,
+) -> Result<(), AllocError>
+    requires table { seat.old.table ≡ words.now }
+    requires work { seat.old.view.work ≡ P.work plan.now }
+    requires found { AllFound (P.found_in plan.now) seat.old.view findings.old.items }
+    requires kept { AreKept seat.old.view findings.old.items }
+    ensures table { seat.new.table ≡ seat.old.table }
+    ensures later { IsLater seat.old.view seat.new.view }
+    ensures found { OnOk result (AllFound (P.found_in plan.now) seat.new.view findings.new.items) }
+    ensures kept { OnOk result (AreKept seat.new.view findings.new.items) }
+{
+    if let Some(finding) = follow(alloc, words, seat, plan, gate, hints, hint)? {
+        findings.push(finding)?;
+    }
+    Ok(())
+}
+
+/// Reads the items that hints name, until none comes.
+pub(crate) fn work<P: Readable, G: Gate>(
+    alloc: Global,
+    words: &Words<P>,
+    plan: &P,
+    gate: &G,
+    job: Job,
+) -> Result<Back<P::Found>, AllocError>
+    requires { IsReady (P.work plan.now) words.now job }
+    ensures { IfOk result (IsBack (P.work plan.now) (P.found_in plan.now) words.now) }
+{
+    let Job {
+        mut seat,
+        mut hints,
+    } = job;
+    let mut findings = Vec::new(alloc);
+    let items = plan.items();
+    let mut idle = 0u32;
+    let mut taken = 0usize;
+    while idle < IDLE_TURNS && taken < items {
+        let Some(hint) = hints.find() else {
+            idle += 1;
+            continue;
+        };
+        idle = 0;
+        taken += 1;
+        turn(
+            alloc,
+            words,
+            &mut seat,
+            plan,
+            gate,
+            &mut hints,
+            &mut findings,
+            hint,
+        )?;
+    }
+    Ok(Back { seat, findings })
+}
