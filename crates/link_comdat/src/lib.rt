@@ -9,8 +9,6 @@ mod section_groups;
 mod selection;
 mod signatures;
 mod tables;
-#[cfg(test)]
-mod tests;
 
 pub use candidate::Candidate;
 pub use group_sections::GroupSections;

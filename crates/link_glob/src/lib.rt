@@ -17,6 +17,3 @@ pub use compile::{compile_glob_pattern, compile_macho_glob_pattern};
 pub use fault::GlobError;
 pub use laws::{escaping_law, examples_law, grammar_law};
 pub use pattern::Pattern;
-
-#[cfg(test)]
-mod tests;

@@ -12,8 +12,6 @@ mod sequence_laws;
 mod sequenced;
 mod sequenced_input;
 mod sequencing;
-#[cfg(test)]
-mod tests;
 
 pub use group::Group;
 pub use grouping::create_groups;

@@ -13,8 +13,6 @@ mod output_queries;
 mod parsed_object;
 mod placement_queries;
 mod platform;
-#[cfg(test)]
-mod platform_tests;
 mod prelude;
 mod segment_name;
 mod symbol_columns;
@@ -23,10 +21,6 @@ mod symbol_queries;
 mod symbol_row;
 mod table_error;
 mod table_laws;
-#[cfg(test)]
-mod table_tests;
-#[cfg(test)]
-mod tests;
 mod too_many;
 mod world;
 

@@ -15,8 +15,6 @@ mod pre_hashed;
 mod seq;
 mod special_names;
 mod symbol_name;
-#[cfg(test)]
-mod tests;
 
 pub use agreement::{hash_agrees_with_eq, order_and_hash_agree_with_eq};
 pub use fnv::hash_bytes;

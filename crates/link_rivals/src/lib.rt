@@ -7,8 +7,6 @@ mod lists;
 mod narrowing;
 mod settling;
 mod survivors;
-#[cfg(test)]
-mod tests;
 
 pub use laws::{
     clashes_are_the_duplicates, names_make_lists, narrowing_twice_joins_both,

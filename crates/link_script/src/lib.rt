@@ -19,6 +19,3 @@ pub use rules::{BasicMatchRules, MatchRules, Version, VersionBody};
 pub use rust_form::{RustFormError, RustVersionScript};
 pub use script::VersionScript;
 pub use symbol_version::UndefinedVersion;
-
-#[cfg(test)]
-mod tests;

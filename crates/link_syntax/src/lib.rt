@@ -25,6 +25,3 @@ pub use macho_list::read_macho_list;
 pub use matcher::{ParsedSymbolMatcher, SymbolMatcher};
 pub use named::RawVersion;
 pub use script::RawScript;
-
-#[cfg(test)]
-mod tests;

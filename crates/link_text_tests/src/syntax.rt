@@ -1,8 +1,13 @@
+//! That each reader succeeds where memory is ample, short texts with the first fault of each, and long texts.
+
 ghost use Rattle.std.specs.Prelude.{◌≤◌, length};
 
-use super::*;
+use link_syntax::{
+    ParsedSymbolMatcher, RawScript, ScriptFault, SymbolMatcher, parse_matcher, read_added_entry,
+    read_gnu_list, read_macho_list,
+};
 use std::alloc::Global;
-use std::test::*;
+use std::test::Fail;
 
 /// The text of the fault, `read` where there is none, `memory` where memory ran out.
 fn outcome(alloc: Global, text: &[u8]) -> Result<String, Fail> {

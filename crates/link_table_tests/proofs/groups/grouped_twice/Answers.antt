@@ -3,7 +3,7 @@ use Rattle.link_input.specs.declared.options.Options.{Options}
 use Rattle.link_input.specs.InputFiles.{Batch, batch_of}
 use Rattle.link_groups.specs.declared.group.Group.{Group}
 use Rattle.link_groups.specs.Held.{AreGroupsOf}
-use Rattle.link_groups.proofs.tests.grouped_twice.Goals as goal
+use Rattle.link_table_tests.proofs.groups.grouped_twice.Goals as goal
 
 -- the groups of a first batch, behind none
 behind-none : {P : Type 0} (options : Options) (batch : Batch) (none groups held : List (Group P)) → none ≡ [] → held ≡ groups → AreGroupsOf options (batch ∷ []) (none ++ groups) → AreGroupsOf options (batch ∷ []) held

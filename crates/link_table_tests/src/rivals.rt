@@ -3,11 +3,11 @@
 ghost use Rattle.std.specs.Prelude.{◌≡◌, ◌<◌, ◌≤◌, All, IfOk, length};
 ghost use Rattle.link_flags.specs.FlagWords.{words_of};
 
-use crate::{RivalLists, Survivors, narrow, settle};
 use bitflags::Flags;
 use link_flags::SymbolStrength::{Common, GnuUnique, Strong, Undefined, Weak};
 use link_flags::{PerSymbolFlags, SymbolStrength, ValueFlags, Visibility};
 use link_ids::{SymbolId, SymbolIdRange};
+use link_rivals::{RivalLists, Survivors, narrow, settle};
 use std::alloc::{AllocError, Global};
 use std::process::Abort;
 use std::test::Fail;

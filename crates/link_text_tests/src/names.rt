@@ -1,6 +1,6 @@
 //! Tests of what no contract says.
 
-use crate::{
+use link_names::{
     Name, NameView, PassThroughHasher, PreHashed, PreHashedSymbolName, Seq, UnversionedSymbolName,
     VersionedSymbolName, hash_bytes, is_mapping_symbol_name, number_in_map, parse_number, text_of,
 };

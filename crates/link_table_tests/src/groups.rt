@@ -2,8 +2,8 @@
 
 ghost use Rattle.std.specs.Prelude.{◌≤◌};
 
-use crate::{Group, GroupsError, SyntheticSymbols, create_groups};
 use link_flags::Visibility;
+use link_groups::{Group, GroupsError, SyntheticSymbols, create_groups};
 use link_ids::{FileId, SymbolIdRange};
 use link_input::{
     InputObject, Inputs, MachLike, Modifiers, ObjectTable, Options, ParsedInputObject, Place,

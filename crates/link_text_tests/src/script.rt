@@ -1,11 +1,11 @@
 //! Tests of what no contract says: long texts, and a demangler of another kind. Cases of texts and names stand in the program
 //! `link_script_cases`.
 
-use super::*;
 use link_names::Name;
+use link_script::{BasicMatchRules, Demangler, MatchRules, Plain, VersionScript};
 use link_syntax::SymbolMatcher;
 use std::alloc::Global;
-use std::test::*;
+use std::test::Fail;
 
 fn script(alloc: Global, text: &[u8]) -> Result<VersionScript, Fail> {
     Ok(

@@ -1,6 +1,11 @@
-use super::*;
+//! That patterns compile where there is enough memory, and what they then fit, in both dialects; the texts of refusals; that fifty stars end.
+
+use link_glob::{
+    GlobError, GlobPatternType, Pattern, analyze_glob_pattern, compile_glob_pattern,
+    compile_macho_glob_pattern, unescape_pattern,
+};
 use std::alloc::AllocError;
-use std::test::*;
+use std::test::Fail;
 
 const KINDS: &[(&[u8], GlobPatternType)] = &[
     (b"foo", GlobPatternType::Exact),

@@ -1,6 +1,6 @@
 //! That groups are selected where memory is ample.
 
-use crate::{Candidate, Selection};
+use link_comdat::{Candidate, Selection};
 use link_flags::Visibility;
 use link_input::{
     ElfLike, InputObject, Modifiers, ObjectTable, ParsedInputObject, Place, SectionGroup,
