@@ -1,0 +1,137 @@
+"""The files of a link in their order: each object, each member of an archive, each shared object, and what scripts say."""
+
+import mmap
+import os
+import sys
+import time
+
+from . import archives, elf, linker_script
+from .faults import Fault
+from .search import Search
+
+INTERMEDIATE_CODE = (b"BC\xc0\xde", b"\xde\xc0\x17\x0b")
+SECONDS_BETWEEN_LINES = 2
+
+
+class Entry:
+    """A table and what the words say of its file."""
+
+    def __init__(self, table, archive, state):
+        self.table = table
+        self.archive = archive
+        self.whole_archive = archive and state.whole_archive
+        self.as_needed = table.dynamic and state.as_needed
+
+
+class Inputs:
+    """Reads the files of a command, each path once."""
+
+    def __init__(self, command, warnings):
+        self.warnings = warnings
+        self.search = Search(command)
+        self.entries = []
+        self.scripts = []
+        self.undefined = []
+        self.read = {}  # the entries of each path that was read
+        self.open_scripts = []
+        self.symbols = 0
+        self.began = self.told = time.monotonic()
+        for kind, name, state in command.inputs:
+            path = self.search.library(name, state.shared) if kind == "library" else name
+            self.add(path, state)
+
+    def has_shared(self):
+        """Whether a shared object is among the files."""
+        return any(entry.table.dynamic for entry in self.entries)
+
+    def machines_agree(self, name, data):
+        """Notes the machine of the first object, and refuses another one's."""
+        if len(data) < 64:
+            raise Fault(name, "is cut short")
+        machine = int.from_bytes(data[18:20], "little" if data[5] == 1 else "big")
+        if self.search.machine is None:
+            self.search.machine = machine
+        elif self.search.machine != machine:
+            raise Fault(name, f"is of machine {machine}, and not {self.search.machine}")
+
+    def add(self, path, state):
+        """A file of any kind."""
+        key = os.path.realpath(path)
+        if key in self.read:
+            self.again(self.read[key], state)
+            return
+        data = open_file(path)
+        start = len(self.entries)
+        self.read[key] = []
+        magic = bytes(data[:8])
+        if magic.startswith(elf.MAGIC):
+            self.add_table(path, data, state.lazy, state)
+        elif magic in (archives.PLAIN, archives.THIN):
+            for name, member in archives.members(path, data, open_file):
+                self.add_member(f"{path}({name})", member, state)
+        elif magic.startswith(INTERMEDIATE_CODE):
+            raise Fault(path, "holds intermediate code of a compiler, which only its plugin reads")
+        else:
+            self.add_script(path, bytes(data), state)
+            return
+        self.read[key] = self.entries[start:]
+
+    def again(self, entries, state):
+        """A file that was read before: it is as needed only where it always is, and whole where it once is."""
+        for entry in entries:
+            entry.whole_archive |= entry.archive and state.whole_archive
+            entry.as_needed &= state.as_needed
+
+    def add_member(self, name, data, state):
+        """A member of an archive; what is no object is passed over, as linkers pass it over."""
+        magic = bytes(data[:4])
+        if magic.startswith(INTERMEDIATE_CODE):
+            raise Fault(name, "holds intermediate code of a compiler, which only its plugin reads")
+        if magic == elf.MAGIC:
+            self.add_table(name, data, True, state)
+        elif len(data):
+            self.warnings.tell(name, "is no object, and passed over")
+
+    def add_table(self, name, data, archive, state):
+        """A file of symbols."""
+        self.machines_agree(name, data)
+        table = elf.read_elf(name, data, self.warnings)
+        self.entries.append(Entry(table, archive and not table.dynamic, state))
+        self.symbols += len(table.symbols)
+        now = time.monotonic()
+        if now - self.told > SECONDS_BETWEEN_LINES:
+            self.told = now
+            print(f"manifest: {len(self.entries)} objects, {self.symbols} symbols", file=sys.stderr, flush=True)
+
+    def add_script(self, path, data, state):
+        """A linker script: its inputs take the place where it stands."""
+        if path in self.open_scripts:
+            raise Fault(path, "includes itself")
+        script = linker_script.read_script(path, data)
+        self.open_scripts.append(path)
+        self.search.folders += [self.search.rooted(folder) for folder in script.search]
+        self.undefined += script.undefined
+        if script.lays_out:
+            self.warnings.tell(path, "of SECTIONS, only the symbols that it defines are told")
+        if script.entry is not None or script.version is not None or script.symbols:
+            self.scripts.append(script)
+        for name in script.includes:
+            self.add(self.search.script_input(name, path), state)
+        for name, as_needed in script.inputs:
+            inner = state.copy()
+            inner.as_needed |= as_needed
+            is_library = name.startswith("-l")
+            found = self.search.library(name[2:], state.shared) if is_library else self.search.script_input(name, path)
+            self.add(found, inner)
+        self.open_scripts.pop()
+
+
+def open_file(path):
+    """The bytes of a file."""
+    try:
+        with open(path, "rb") as file:
+            if os.fstat(file.fileno()).st_size == 0:
+                return memoryview(b"")
+            return memoryview(mmap.mmap(file.fileno(), 0, access=mmap.ACCESS_READ))
+    except (OSError, ValueError) as reason:
+        raise Fault(path, getattr(reason, "strerror", None) or "can't be opened") from None

@@ -1,0 +1,68 @@
+"""The tool's own words: from a linker's words to the manifest on standard output."""
+
+import os
+import shlex
+import subprocess
+import sys
+
+from .faults import Fault, Warnings
+from .inputs import Inputs
+from .manifest import MOST_BYTES, manifest_pieces
+from .words import read_words
+
+HELP = """tools/manifest LINKER WORDS
+tools/manifest --from-cc COMPILER WORDS
+
+Reads the files of a link, and writes on standard output the manifest that `link` reads: which symbols each object has.
+
+LINKER WORDS are those of ld: files, -l and -L, --start-group, --whole-archive, --as-needed, -Bstatic, -static, -shared,
+-pie, -r, -e, -u, --defsym, --wrap, --version-script, --dynamic-list, --export-dynamic-symbol, --start-lib, -T, @FILE and so
+on. Words that change nothing which a manifest tells are passed over; for those that would, there is a warning.
+With --from-cc, the compiler is asked (by -###) for the words that it would give to its linker; name objects, not sources.
+
+Read are ELF objects of 64 bits, archives (thin ones too), shared objects and linker scripts.
+Ends with 0, or with 1 and one line `error: FILE: ..` on standard error. Warnings and progress come on standard error too.
+"""
+
+
+def words_of_compiler(words):
+    """The words that a compiler would give to its linker: the last command that it tells."""
+    try:
+        done = subprocess.run([*words, "-###"], capture_output=True, text=True)
+    except (OSError, IndexError):
+        raise Fault(" ".join(words[:1]), "can't be run") from None
+    commands = [line for line in done.stderr.splitlines() if line.startswith(" ")]
+    if done.returncode != 0 or not commands:
+        raise Fault(words[0], f"tells no linker's words: {done.stderr.strip().splitlines()[-1:]}")
+    return shlex.split(commands[-1])[1:]
+
+
+def manifest_of(words, warnings):
+    """The bytes of the manifest that a linker's words ask for."""
+    command = read_words(words, warnings)
+    inputs = Inputs(command, warnings)
+    if not inputs.entries:
+        raise Fault("words", "name no object")
+    written = "".join(manifest_pieces(command, inputs)).encode()
+    if len(written) > MOST_BYTES:
+        raise Fault("manifest", f"would have {len(written)} bytes, and the program reads {MOST_BYTES}")
+    return written
+
+
+def main(words):
+    """Runs the tool, and answers its status."""
+    if words[:1] == ["--help"] or words == ["-h"]:
+        print(HELP, end="")
+        return 0
+    try:
+        if words[0] == "--from-cc":
+            words = words_of_compiler(words[1:])
+        sys.stdout.buffer.write(manifest_of(words, Warnings()))
+        sys.stdout.flush()
+    except Fault as fault:
+        print(f"error: {os.fsencode(str(fault)).decode('utf-8', 'backslashreplace')}", file=sys.stderr)
+        return 1
+    except BrokenPipeError:
+        os.dup2(os.open(os.devnull, os.O_WRONLY), sys.stdout.fileno())
+        return 1
+    return 0
