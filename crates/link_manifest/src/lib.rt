@@ -18,8 +18,6 @@ mod redirects;
 mod sections;
 mod symbols;
 mod tables;
-#[cfg(test)]
-mod tests;
 mod values;
 mod words;
 

@@ -1,7 +1,7 @@
 //! What no clause says: that a manifest is read with ample memory, and that the definitions say what
 //! is meant.
 
-use crate::{Manifest, ManifestError, manifest_leaking_tree, manifest_of};
+use link_manifest::{Manifest, ManifestError, manifest_leaking_tree, manifest_of};
 use std::alloc::{AllocError, Global};
 use std::test::Fail;
 
