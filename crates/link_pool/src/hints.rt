@@ -28,6 +28,7 @@ pub(crate) struct Hints {
 
 impl Hints {
     /// A hint of its own, or else one that it steals.
+    /// Which one, and whether there is any, is left open: who takes a hint checks it, and the sweep reads what no hint told.
     pub(crate) fn find(&mut self) -> Option<Hint> {
         if let Some(hint) = self.local.pop() {
             return Some(hint);
@@ -99,12 +100,14 @@ pub(crate) struct Dealer {
 
 impl Dealer {
     /// With no hints for each worker.
+    /// What it holds is left open: nothing rests on hints.
     pub(crate) fn new(alloc: Global, workers: usize) -> Result<Dealer, AllocError> {
         let all = hints_of(alloc, workers)?;
         Ok(Dealer { all, next: 0 })
     }
 
     /// The hints of each worker.
+    /// Which they are, and for how many workers, is left open: the sweep reads what no worker did.
     pub(crate) fn into_hints(self) -> Vec<Hints> {
         self.all
     }

@@ -12,6 +12,7 @@ pub(crate) struct ItemsByFile {
 
 impl ItemsByFile {
     /// The items of all files of a plan.
+    /// Which they are is left open: the sweep goes on by them, and its last pass looks at every item.
     pub(crate) fn of_plan<P: Readable>(alloc: Global, plan: &P) -> Result<ItemsByFile, AllocError> {
         let mut last = vec![in alloc; None; plan.files()]?;
         let mut before = Vec::new(alloc);
@@ -22,11 +23,13 @@ impl ItemsByFile {
     }
 
     /// The last item of the file.
+    /// The number is left open: who visits an item asks the plan for its file.
     pub(crate) fn last_of(&self, file: usize) -> Option<usize> {
         *self.last.get(file)?
     }
 
     /// The item before this one in its file.
+    /// The number is left open, as that of the last one.
     pub(crate) fn before(&self, item: usize) -> Option<usize> {
         *self.before.get(item)?
     }
