@@ -1,7 +1,7 @@
 -- What holds of each stage that a link comes to: the symbols of its objects are its own, and what earlier batches settled is done.
-use Rattle.std.proofs.Common.{◌≡◌, ℕ, ◌+◌, ◌<◌, ◌≤◌, List, [], ◌∷◌, ◌++◌, Bool, true, false, length, map, cond, refl, sym, ◌∙◌, ap, subst, inl, inr, arith, Some, None, Option, Contains, slice_get, length-append}
-use Rattle.std.specs.Prelude.{◌&&◌, ◌||◌, not, option_and_then, zip, if◌then◌else◌}
-use Rattle.std.specs.Option.{option_map_or}
+use Rattle.std.proofs.Common.{◌≡◌, ℕ, ◌+◌, ◌<◌, List, [], ◌∷◌, ◌++◌, Bool, true, false, length, map, cond, refl, sym, ◌∙◌, ap, subst, inl, inr, arith, Some, None, Option, Contains, slice_get, length-append}
+use Rattle.std.specs.Prelude.{◌&&◌, ◌||◌, not, option_and_then, zip, if◌then◌else◌, unwrap_or}
+use Rattle.std.specs.Option.{option_map_or, option_or}
 use Rattle.link_closure.specs.Closure.{is_marked}
 use Rattle.link_closure.specs.declared.workload.Mark.{Mark}
 use Rattle.link_closure.specs.Workload.{IsWithin, bits_for}
@@ -19,6 +19,8 @@ use Rattle.link_rules.specs.Targets.{earlier_target, target, kept_target}
 use Rattle.link_rules.specs.Loading.{IsLoaded, request_of, request_between, is_origin_loaded}
 use Rattle.link_rules.specs.Marking.{reference_flags, reference_marks, named_marks, all_marks, marked_symbol, flags_before, ended}
 use Rattle.link_rules.specs.Selection.{Selection, selection_of, loaded_target, target_of}
+use Rattle.link_rules.specs.Opening.{opening_flags}
+use Rattle.link_rules.specs.Orderly.{IsDone, IsOrderly}
 use Rattle.link_rules.specs.Work.{ComesTo, IsStageOf}
 use Rattle.link_rules.proofs.Settled.{here, nothing_in, none_some, some_same, both_true, option_or_cases}
 use Rattle.link_rules.proofs.Twice.{slice_get-each_from}
@@ -117,21 +119,6 @@ request_is w s u t y kept at =
 
 -- ---- what is done
 
--- what the reference u asks for by an earlier target t is loaded, and its mark is made
-pub record IsDone (w : Stage) (u : Symbol) (t : ℕ) : Type 0 where
-  pub symbol : Symbol
-  pub at : slice_get w.symbols t ≡ Some symbol
-  pub requested : (g : ℕ) → asked u (Some symbol) ≡ Some g → is_marked w.earlier.loaded g ≡ true
-  pub flags : ℕ
-  pub left : slice_get w.earlier.flags t ≡ Some flags
-  pub marked : IsWithin (reference_flags u (is_shared symbol.origin)) flags
-
--- the symbols of objects are those of the stage's objects, marks are of these, and what earlier batches settled is done
-pub record IsOrderly (w : Stage) : Type 0 where
-  pub loaded : length w.earlier.loaded ≤ length w.objects
-  pub objects : (x : Symbol) (f : ℕ) → Contains w.symbols x → object_in x.origin ≡ Some f → f < length w.objects
-  pub done : (s t : ℕ) → earlier_target w s ≡ Some t → (u : Symbol) × (slice_get w.symbols s ≡ Some u) × IsDone w u t
-
 -- so it is at the start
 orderly-start : (world : World) → IsOrderly (start_of world)
 orderly-start world = record {
@@ -144,15 +131,19 @@ orderly-start world = record {
     by_symbol x f is it = absurd (none_some f (ap (λ (y : Symbol). object_in y.origin) it.2 ∙ is))
 
 -- what is done stays done where a batch comes
-done-grows : (w : Stage) (b : Batch) (u : Symbol) (t : ℕ) → IsDone w u t → IsDone (with_batch w b) u t
-done-grows w b u t done = record {
+done-grows : (w : Stage) (b : Batch) (s : ℕ) (u : Symbol) (t : ℕ) → earlier_target w s ≡ Some t → IsDone w s u t → IsDone (with_batch w b) s u t
+done-grows w b s u t settled done = record {
+  reference = done.reference;
+  of_loaded = done.of_loaded;
   symbol = done.symbol;
-  at = slice_get-more w.symbols _ t done.symbol done.at;
-  requested = done.requested;
-  flags = done.flags;
-  left = done.left;
+  at = at;
+  requested = λ g asks. done.requested g (request_is w s u t done.symbol (ap (λ o. option_or o (target w u)) settled) done.at
+      ∙ sym (request_is (with_batch w b) s u t done.symbol (ap (λ o. option_or o (target (with_batch w b) u)) settled) at) ∙ asks);
   marked = done.marked;
 }
+  where
+    at : slice_get (with_batch w b).symbols t ≡ Some done.symbol
+    at = slice_get-more w.symbols _ t done.symbol done.at
 
 -- so it stays where a batch comes
 orderly-grows : (w : Stage) (b : Batch) → IsOrderly w → IsOrderly (with_batch w b)
@@ -165,7 +156,7 @@ orderly-grows w b orderly = record {
   ];
   done = λ s t is.
       let it = orderly.done s t is in
-      (it.0, slice_get-more w.symbols _ s it.0 it.1, done-grows w b it.0 t it.2);
+      (it.0, slice_get-more w.symbols _ s it.0 it.1, done-grows w b s it.0 t is it.2);
 }
   where
     longer : length (w.objects ++ b.objects) ≡ length w.objects + length b.objects
@@ -225,15 +216,22 @@ mark_in w marks s u t m at is within =
 
 -- what a loaded reference asks for, and its mark, are done where the batch ends
 done-now : (w : Stage) (marks : List Bool) (s : ℕ) (u : Symbol) (t : ℕ) → IsLoaded w marks → slice_get w.symbols s ≡ Some u → loaded_target w marks s u ≡ Some t
-    → HasSymbol w t → IsDone (ended (selection_of w marks)) u t
-done-now w marks s u t loaded at is has = record {
+    → HasSymbol w t → earlier_target (ended (selection_of w marks)) s ≡ Some t → IsDone (ended (selection_of w marks)) s u t
+done-now w marks s u t loaded at is has settled = record {
+  reference = it.reference;
+  of_loaded = λ f in_it. subst (λ g. is_marked marks g ≡ true) (some_same it.object f (sym it.in_it ∙ in_it)) it.loaded;
   symbol = has.symbol;
   at = has.at;
-  requested = λ g asks. loaded.closed.1 it.object g it.loaded (s, u, at, it.in_it, request_is w s u t has.symbol it.kept has.at ∙ asks);
-  flags = marked_symbol w (all_marks l) t has.symbol;
-  left = slice_get-each_from (marked_symbol w (all_marks l)) 0 w.symbols t has.symbol has.at ∙ ap (λ n. Some (marked_symbol w (all_marks l) n has.symbol)) zero_add;
-  marked = subst (λ shared. IsWithin (reference_flags u shared) (marked_symbol w (all_marks l) t has.symbol)) (ap (λ o. option_map_or (λ (x : Symbol). is_shared x.origin) o false) has.at)
-      (within_trans (bits_has t (all_marks l) made (mark_in w marks s u t made at is (here made [])) refl) (within_right (flags_before w t has.symbol) (bits_for t (all_marks l))));
+  requested = λ g asks. loaded.closed.1 it.object g it.loaded (
+    s,
+    u,
+    at,
+    it.in_it,
+    request_is w s u t has.symbol it.kept has.at
+        ∙ sym (request_is (ended l) s u t has.symbol (ap (λ o. option_or o (target (ended l) u)) settled) has.at) ∙ asks,
+  );
+  marked = subst (λ n. IsWithin (reference_flags u (is_shared has.symbol.origin)) n) (sym left) (subst (λ shared. IsWithin (reference_flags u shared) (marked_symbol w (all_marks l) t has.symbol)) (ap (λ o. option_map_or (λ (x : Symbol). is_shared x.origin) o false) has.at)
+      (within_trans (bits_has t (all_marks l) made (mark_in w marks s u t made at is (here made [])) refl) (within_right (flags_before w t has.symbol) (bits_for t (all_marks l)))));
 }
   where
     l : Selection
@@ -248,6 +246,10 @@ done-now w marks s u t loaded at is has = record {
     zero_add : 0 + t ≡ t
     zero_add = omega arith
 
+    left : flags_before (ended l) t has.symbol ≡ marked_symbol w (all_marks l) t has.symbol
+    left = ap (λ o. unwrap_or o (opening_flags w has.symbol)) (slice_get-each_from (marked_symbol w (all_marks l)) 0 w.symbols t has.symbol has.at
+        ∙ ap (λ n. Some (marked_symbol w (all_marks l) n has.symbol)) zero_add)
+
 -- so it stays where the batch ends
 orderly-stays : (w : Stage) (marks : List Bool) → IsOrderly w → IsLoaded w marks → IsOrderly (ended (selection_of w marks))
 orderly-stays w marks orderly loaded = record {
@@ -256,7 +258,7 @@ orderly-stays w marks orderly loaded = record {
   done = λ s t is.
       let it = targeted w marks s t (slice_get w.symbols s) refl is in
       let kept = loaded_target-is w marks s it.0 t it.2 in
-      (it.0, it.1, done-now w marks s it.0 t loaded it.1 it.2 (kept_symbol w orderly s it.0 t kept.kept));
+      (it.0, it.1, done-now w marks s it.0 t loaded it.1 it.2 (kept_symbol w orderly s it.0 t kept.kept) is);
 }
 
 -- each stage that a link comes to is orderly

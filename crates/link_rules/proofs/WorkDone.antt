@@ -1,5 +1,5 @@
 -- What the work of a batch names is there; and the flags that its items leave are those of the link.
-use Rattle.std.proofs.Common.{◌≡◌, ℕ, suc, ◌+◌, ◌<◌, List, [], ◌∷◌, Bool, true, false, length, cond, refl, sym, ◌∙◌, ap, subst, inl, inr, ◌⊎◌, arith, Some, None, Option, Contains, slice_get, slice_index, is_some, unwrap_or}
+use Rattle.std.proofs.Common.{◌≡◌, ℕ, suc, ◌+◌, ◌<◌, List, [], ◌∷◌, Bool, true, false, length, cond, refl, sym, ◌∙◌, ap, subst, inl, inr, ◌⊎◌, arith, Some, None, Option, Contains, slice_get, slice_index, is_some}
 use Rattle.std.specs.Prelude.{◌&&◌, ◌++◌, option_and_then, option_to_list, zip}
 use Rattle.std.specs.Int.RustNames.{bit_or}
 use Rattle.std.specs.Option.{option_map_or, option_or}
@@ -15,18 +15,18 @@ use Rattle.link_closure.proofs.Joins.{within_trans, within_left, within_right, w
 use Rattle.link_flags.specs.FlagBits as flag
 use Rattle.link_input.specs.Symbols.{Symbol, object_in, is_shared}
 use Rattle.link_rules.specs.Places.{Bytes, each_from}
-use Rattle.link_rules.specs.World.{World, Stage, is_reference, is_shared_at, object_of}
+use Rattle.link_rules.specs.World.{Stage, is_reference, is_shared_at, object_of}
 use Rattle.link_rules.specs.Names.{first_definition}
 use Rattle.link_rules.specs.Targets.{earlier_target, target, kept_target}
 use Rattle.link_rules.specs.Loading.{IsLoaded, entry_name, redirect_targets, is_root, request_of, request_between, is_origin_loaded}
 use Rattle.link_rules.specs.Marking.{reference_flags, reference_marks, named_symbols, named_marks, all_marks, marked_flags, marked_symbol, flags_before}
-use Rattle.link_rules.specs.Opening.{opening_flags}
 use Rattle.link_rules.specs.Selection.{selection_of, loaded_target}
-use Rattle.link_rules.specs.Work.{IsStageOf, new_requests, new_marks, object_items, object_places, workload_of}
+use Rattle.link_rules.specs.Work.{new_requests, new_marks, object_items, object_places, workload_of}
 use Rattle.link_rules.proofs.Settled.{here, here_or_there, nothing_in, none_some, some_same, filtered, slice_index-each_from}
 use Rattle.link_rules.proofs.Members.{at_place, map_from, joined_from, zipped_from, range_from}
 use Rattle.link_rules.proofs.Ranges.{HasSymbol, first_definition-symbol, target-symbol}
-use Rattle.link_rules.proofs.Stages.{IsOrderly, IsDone, IsTargetOf, loaded_target-is, mark_in, orderly-stage}
+use Rattle.link_rules.specs.Orderly.{IsDone, IsOrderly}
+use Rattle.link_rules.proofs.Stages.{IsTargetOf, loaded_target-is, mark_in}
 use Rattle.link_rules.proofs.WorkItems.{IsItemOf, item_from, item_in, held_from, object_below, requests_from}
 
 -- ---- marks
@@ -148,8 +148,8 @@ asked_below w orderly s u g is = by_target (kept_target w s u) (chosen _ _ is)
     by_target (Some t) same = object_below w orderly t g (between _ t same)
 
 -- all that the work names is there
-pub work-sound : (world : World) (w : Stage) → IsStageOf world w → work.IsSound (workload_of w)
-work-sound world w to = record {
+pub work-sound : (w : Stage) → IsOrderly w → work.IsSound (workload_of w)
+work-sound w orderly = record {
   roots = λ f root. range_from (length w.objects) f (filtered (is_root w) (object_places w) f root);
   items = λ i it at. file_below it (item_from w it (at_place (flat_map (object_items w) (object_places w)) i it at));
   requests = λ i f has. request_below f (item_from w has.0 (at_place (flat_map (object_items w) (object_places w)) i has.0 has.1)) has.2;
@@ -157,16 +157,13 @@ work-sound world w to = record {
   marks = λ i m has. mark_opens (item_mark w i has.0 m has.1 has.2);
 }
   where
-    it_is : IsOrderly w
-    it_is = orderly-stage world w to
-
     file_below : (it : Item) → (f : ℕ) × (part : List (ℕ × Symbol)) × IsItemOf w it f part → it.file < length w.objects
     file_below it (f, part, item) = subst (λ (j : Item). j.file < length w.objects) (sym item.is) item.below
 
     request_below : {it : Item} (g : ℕ) → (f : ℕ) × (part : List (ℕ × Symbol)) × IsItemOf w it f part → Contains it.requests g → g < length w.objects
     request_below g (f, part, item) within =
         let of_symbol = joined_from (new_requests w) part g (subst (λ (j : Item). Contains j.requests g) item.is within) in
-        asked_below w it_is of_symbol.0.0 of_symbol.0.1 g (requests_from w of_symbol.0.0 of_symbol.0.1 g of_symbol.2)
+        asked_below w orderly of_symbol.0.0 of_symbol.0.1 g (requests_from w of_symbol.0.0 of_symbol.0.1 g of_symbol.2)
 
     mark_opens : {f : ℕ} {m : Mark} → IsMarkOf w f m → m.symbol < length (each_from (flags_before w) 0 w.symbols)
     mark_opens {f} {m} mark =
@@ -229,10 +226,6 @@ work_within w marks s x at = within_both (within_both opening named) items
         bits_within s it.marks _ (λ m has is.
         within_trans (bits_has s all m (item_mark_in w marks it.file m loaded (item_mark w i it m stands has)) is) of_marks))
 
--- what is left of an earlier batch is what a symbol begins with
-before_is : (w : Stage) (s : ℕ) (x : Symbol) (n : ℕ) → slice_get w.earlier.flags s ≡ Some n → flags_before w s x ≡ n
-before_is w s x n left = ap (λ o. unwrap_or o (opening_flags w x)) left
-
 -- the mark of a loaded reference is within the flags that the work leaves, by whether an earlier batch settled it
 mark_within_by : (w : Stage) (marks : List Bool) (s : ℕ) (x : Symbol) → IsOrderly w → slice_get w.symbols s ≡ Some x
     → (i : ℕ) (u : Symbol) (o : Option ℕ) → earlier_target w i ≡ o → slice_get w.symbols i ≡ Some u → IsTargetOf w marks i u s
@@ -247,11 +240,11 @@ mark_within_by w marks s x orderly at i u None settled stands it =
 mark_within_by w marks s x orderly at i u (Some t) settled stands it =
     let earlier = orderly.done i t settled in
     let same : t ≡ s = some_same t s (sym (ap (λ o. option_or o (target w u)) settled) ∙ it.kept) in
-    let done : IsDone w u s = subst (λ k. IsDone w u k) same (subst (λ y. IsDone w y t) (some_same earlier.0 u (sym earlier.1 ∙ stands)) earlier.2) in
+    let done : IsDone w i u s = subst (λ k. IsDone w i u k) same (subst (λ y. IsDone w i y t) (some_same earlier.0 u (sym earlier.1 ∙ stands)) earlier.2) in
     let shared : is_shared done.symbol.origin ≡ is_shared_at w s = sym (ap (λ o. option_map_or (λ (y : Symbol). is_shared y.origin) o false) done.at) in
-    let begins : done.flags ≡ slice_index (each_from (flags_before w) 0 w.symbols) s = sym (opening_is w s x at ∙ before_is w s x done.flags done.left) in
-    within_trans (subst (λ b. IsWithin (reference_flags u b) done.flags) shared done.marked)
-    (subst (λ n. IsWithin n (worked_flags w marks s)) (sym begins)
+    let begins = opening_is w s done.symbol done.at in
+    within_trans (subst (λ b. IsWithin (reference_flags u b) (flags_before w s done.symbol)) shared done.marked)
+    (subst (λ n. IsWithin n (worked_flags w marks s)) begins
     (within_trans (within_left (slice_index (each_from (flags_before w) 0 w.symbols) s) (bits_for s (named_marks w)))
     (within_left (bit_or (slice_index (each_from (flags_before w) 0 w.symbols) s) (bits_for s (named_marks w))) _)))
 
@@ -292,9 +285,9 @@ link_within w marks s x orderly at = within_both opening (bits_within s (all_mar
     by_side m is (inr reference) = mark_within w marks s x orderly at m reference is
 
 -- the flags that the work leaves are those of the link
-pub work-marked : (world : World) (w : Stage) (marks : List Bool) (s : ℕ) → IsStageOf world w → IsLoaded w marks → s < length w.symbols
+pub work-marked : (w : Stage) (marks : List Bool) (s : ℕ) → IsOrderly w → IsLoaded w marks → s < length w.symbols
     → work.marked (workload_of w) (is_marked marks) s ≡ slice_index (marked_flags (selection_of w marks)) s
-work-marked world w marks s to loaded below = by_symbol (slice_get w.symbols s) refl
+work-marked w marks s orderly loaded below = by_symbol (slice_get w.symbols s) refl
   where
     all : List Mark
     all = all_marks (selection_of w marks)
@@ -306,5 +299,5 @@ work-marked world w marks s to loaded below = by_symbol (slice_get w.symbols s) 
         some_below none = grind (arith, common_steps, gets)
     by_symbol (Some x) at =
         let zero_add : 0 + s ≡ s = omega arith in
-        within_same (work_within w marks s x at) (link_within w marks s x (orderly-stage world w to) at)
+        within_same (work_within w marks s x at) (link_within w marks s x orderly at)
         ∙ sym (slice_index-each_from (marked_symbol w all) 0 w.symbols s x at ∙ ap (λ n. marked_symbol w all n x) zero_add)

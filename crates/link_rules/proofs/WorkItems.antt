@@ -1,7 +1,7 @@
 -- What the items of a batch's work say: which symbol's requests and marks stand in which item; and that the roots and requests have the same closed sets as the link has.
 use Rattle.std.proofs.Common.{◌≡◌, ℕ, zero, suc, ◌+◌, ◌*◌, ◌<◌, List, [], ◌∷◌, Bool, true, false, length, cond, refl, sym, ◌∙◌, ap, subst, inl, inr, ◌⊎◌, arith, Some, None, Option, Contains, slice_get, take, drop, is_some}
 use Rattle.std.specs.Prelude.{◌↔◌, ◌||◌, ◌/◌, ◌-◌, ◌==◌, not, option_and_then, option_to_list}
-use Rattle.std.specs.Option.{option_map_or, option_or}
+use Rattle.std.specs.Option.{option_map_or}
 use Rattle.std.specs.List.{enumerate_from, flat_map, range_with_len, list_any}
 use Rattle.std.proofs.lemmas.Bool.Decides.{nat_tests}
 use Rattle.link_closure.specs.Closure.{IsClosed, IsLeastClosed, is_marked}
@@ -12,15 +12,15 @@ use Rattle.link_closure.proofs.Least.{least_of_alike}
 use Rattle.link_input.specs.ObjectFile.{is_optional}
 use Rattle.link_input.specs.Symbols.{Symbol, object_in}
 use Rattle.link_rules.specs.Places.{Bytes, is_number}
-use Rattle.link_rules.specs.World.{World, Stage, object_of}
+use Rattle.link_rules.specs.World.{Stage, object_of}
 use Rattle.link_rules.specs.Names.{first_definition}
-use Rattle.link_rules.specs.Targets.{earlier_target, target, kept_target}
+use Rattle.link_rules.specs.Targets.{earlier_target}
 use Rattle.link_rules.specs.Loading.{IsLoaded, IsRoot, HasEdge, is_root, is_required, holds_name, root_names, request_of}
-use Rattle.link_rules.specs.Work.{IsStageOf, item_size, item_count, new_requests, new_marks, symbols_with_ids, item_of, object_items, object_places, workload_of}
+use Rattle.link_rules.specs.Work.{item_size, item_count, new_requests, new_marks, symbols_with_ids, item_of, object_items, object_places, workload_of}
 use Rattle.link_rules.proofs.Settled.{here, here_or_there, nothing_in, none_some, some_same, filtered}
 use Rattle.link_rules.proofs.Twice.{passes, numbered_at}
 use Rattle.link_rules.proofs.Members.{placed, at_place, map_from, map_in, joined_from, joined_in, kept_in, numbered_in, part_from, part_in, range_in, range_from}
-use Rattle.link_rules.proofs.Stages.{IsOrderly, asked, request_is, orderly-stage}
+use Rattle.link_rules.specs.Orderly.{IsOrderly}
 
 -- ---- the symbols of an object
 
@@ -149,9 +149,7 @@ edge_by w orderly f g s u None settled at in_it asks =
 edge_by w orderly f g s u (Some t) settled at in_it asks =
     let it = orderly.done s t settled in
     let same : it.0 ≡ u = some_same it.0 u (sym it.1 ∙ at) in
-    let done = it.2 in
-    let kept : kept_target w s u ≡ Some t = ap (λ o. option_or o (target w u)) settled in
-    inr (done.requested g (ap (λ x. asked x (Some done.symbol)) same ∙ sym (request_is w s u t done.symbol kept done.at) ∙ asks))
+    inr (it.2.requested g (subst (λ (x : Symbol). request_of w s x ≡ Some g) (sym same) asks))
 
 -- ---- roots
 
@@ -239,14 +237,11 @@ closed_for_work w holds closed = (
 )
 
 -- what is loaded is the least set that the work closes
-pub work-loaded : (world : World) (w : Stage) (marks : List Bool) → IsStageOf world w
+pub work-loaded : (w : Stage) (marks : List Bool) → IsOrderly w
     → IsLoaded w marks ↔ IsLeastClosed (work.IsRoot (workload_of w)) (work.HasEdge (workload_of w)) (length w.objects) marks
-work-loaded world w marks to = (
+work-loaded w marks orderly = (
   least_of_alike (IsRoot w) (work.IsRoot (workload_of w)) (HasEdge w) (work.HasEdge (workload_of w)) (length w.objects) marks
-      (λ holds. (closed_for_work w holds, closed_for_link w it holds)),
+      (λ holds. (closed_for_work w holds, closed_for_link w orderly holds)),
   least_of_alike (work.IsRoot (workload_of w)) (IsRoot w) (work.HasEdge (workload_of w)) (HasEdge w) (length w.objects) marks
-      (λ holds. (closed_for_link w it holds, closed_for_work w holds)),
+      (λ holds. (closed_for_link w orderly holds, closed_for_work w holds)),
 )
-  where
-    it : IsOrderly w
-    it = orderly-stage world w to

@@ -23,3 +23,4 @@ pub mod Answer
 pub mod Building
 pub mod Examples
 pub mod Work
+pub mod Orderly

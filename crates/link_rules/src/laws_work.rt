@@ -10,6 +10,7 @@ ghost use Rattle.link_input.specs.Symbols.{Symbol, object_in, symbols_of};
 ghost use Rattle.link_rules.specs.World.{Stage, World};
 ghost use Rattle.link_rules.specs.Loading.{IsLoaded};
 ghost use Rattle.link_rules.specs.Marking.{marked_flags};
+ghost use Rattle.link_rules.specs.Orderly.{IsOrderly};
 ghost use Rattle.link_rules.specs.Refusals.{counts_at};
 ghost use Rattle.link_rules.specs.Selection.{selection_of};
 ghost use Rattle.link_rules.specs.Work.{IsStageOf, new_marks, new_requests, object_items, symbols_with_ids, workload_of};
@@ -17,11 +18,16 @@ ghost use Rattle.link_rules.specs.Work.{IsStageOf, new_marks, new_requests, obje
 /// What workers share of a batch is the work of its link: the files that they read are those that are loaded, the flags that
 /// they leave are those of the loaded files, and all that they name is there.
 pub fn work_is_the_link()
-    ensures loaded { (world : World) (w : Stage) (marks : List Bool) → IsStageOf world w
+    ensures loaded { (w : Stage) (marks : List Bool) → IsOrderly w
         → IsLoaded w marks ↔ IsLeastClosed (work.IsRoot (workload_of w)) (work.HasEdge (workload_of w)) (length w.objects) marks }
-    ensures marked { (world : World) (w : Stage) (marks : List Bool) (s : ℕ) → IsStageOf world w → IsLoaded w marks → s < length w.symbols
+    ensures marked { (w : Stage) (marks : List Bool) (s : ℕ) → IsOrderly w → IsLoaded w marks → s < length w.symbols
         → work.marked (workload_of w) (is_marked marks) s ≡ slice_index (marked_flags (selection_of w marks)) s }
-    ensures sound { (world : World) (w : Stage) → IsStageOf world w → work.IsSound (workload_of w) }
+    ensures sound { (w : Stage) → IsOrderly w → work.IsSound (workload_of w) }
+{}
+
+/// Each stage of a link is orderly: what its earlier batches settled is done.
+pub fn each_stage_is_orderly()
+    ensures { (world : World) (w : Stage) → IsStageOf world w → IsOrderly w }
 {}
 
 /// The items of an object are its symbols, cut into parts: joined, they request and mark what its symbols do, in the order of

@@ -10,7 +10,7 @@ mod refusal;
 
 pub use laws_examples::definitions_at_work;
 pub use laws_work::{
-    each_stage_has_its_loaded_objects, items_are_their_object,
+    each_stage_has_its_loaded_objects, each_stage_is_orderly, items_are_their_object,
     stages_have_the_symbols_of_their_files, work_is_the_link,
 };
 pub use laws_world::{
