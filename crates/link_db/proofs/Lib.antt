@@ -9,3 +9,4 @@ pub mod LinkerGroups
 pub mod Lookups
 pub mod SameMapping
 pub mod Walked
+pub mod Within

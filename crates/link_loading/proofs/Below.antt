@@ -96,6 +96,12 @@ target-object symbols x (Some t) g is =
     let found = source-object symbols x t g (slice_get symbols t) refl (ap (option_and_then (requested (source_of x))) (sym (slice_get-map source_of symbols t)) ∙ is) in
     (t, found.0, found.1, found.2)
 
+-- what a symbol asks for by some target is an object
+pub request-below : {P : Type 0} (groups : List (Group P)) (x : Symbol) (target : Option ℕ) (g : ℕ) → request_by (sources_of (symbols_in groups)) x target ≡ Some g → g < length (objects_in groups)
+request-below groups x target g is =
+    let to = target-object (symbols_in groups) x target g (asked-object (is_weak_symbol x) _ g is) in
+    object-below groups to.0 to.1 g to.2 to.3
+
 -- both ends of each listed edge are objects
 pub edges-below : {P : Type 0} (groups : List (Group P)) (targets : List (Option ℕ)) → AreInRange (length (objects_in groups)) (edges_by (sources_of (symbols_in groups)) targets (symbols_in groups))
 edges-below groups targets = λ k d lt.

@@ -43,12 +43,12 @@ asked-of u None = none-anyway ((is_shared u.origin && false) || same_number (obj
 asked-of u (Some y) = refl
 
 -- sources tell what a target is asked for
-asked-by : (w : Stage) (u : Symbol) (o : Option ℕ) → option_and_then (requested (source_of u)) (option_and_then (slice_get (sources_of w.symbols)) o) ≡ option_and_then (request_between w u) o
+pub asked-by : (w : Stage) (u : Symbol) (o : Option ℕ) → option_and_then (requested (source_of u)) (option_and_then (slice_get (sources_of w.symbols)) o) ≡ option_and_then (request_between w u) o
 asked-by w u None = refl
 asked-by w u (Some t) = ap (option_and_then (requested (source_of u))) (slice_get-map source_of w.symbols t) ∙ asked-of u (slice_get w.symbols t)
 
 -- both tests, in either order
-tested : (A B : Option ℕ → Option ℕ) → ((o : Option ℕ) → A o ≡ B o) → A None ≡ None → (is_asking is_weak : Bool) (o : Option ℕ)
+pub tested : (A B : Option ℕ → Option ℕ) → ((o : Option ℕ) → A o ≡ B o) → A None ≡ None → (is_asking is_weak : Bool) (o : Option ℕ)
     → cond is_weak None (A (cond is_asking o None)) ≡ cond (is_asking && not is_weak) (B o) None
 tested A B agree none true true o = refl
 tested A B agree none true false o = agree o

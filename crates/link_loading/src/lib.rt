@@ -12,6 +12,7 @@ mod targets;
 pub use loading::{loaded_objects, request_edges};
 pub use names::{referred_names, root_names};
 pub use objects::objects_of;
+pub use requests::request_by;
 pub use roots::root_objects;
 pub use sources::{SymbolSource, symbol_sources};
-pub use targets::reference_targets;
+pub use targets::{looked_up, reference_targets};

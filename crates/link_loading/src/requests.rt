@@ -24,7 +24,7 @@ fn requested(from: SymbolSource, to: SymbolSource) -> Option<usize>
 }
 
 /// The object that a symbol with this target asks for: a weak one asks for none.
-fn request_by(
+pub fn request_by(
     sources: &[SymbolSource],
     symbol: &SymbolView,
     target: Option<SymbolId>,

@@ -3,10 +3,10 @@
 ghost use Rattle.std.specs.Prelude.{◌≡◌, ◌<◌, IfOk, IfSome, length};
 ghost use Rattle.link_loader.specs.Holds.{platform_of};
 ghost use Rattle.link_rules.specs.Places.{Bytes};
-ghost use Rattle.link_rules.specs.Targets.{target};
+ghost use Rattle.link_rules.specs.Targets.{is_open, target, target_in};
 ghost use Rattle.link_rules.specs.World.{Stage};
 ghost use Rattle.link_symbols.specs.Lookups.{AreBelow};
-ghost use Rattle.link_db.specs.Database.{symbol_names};
+ghost use Rattle.link_db.specs.Database.{name_table_of, symbol_names};
 ghost use Rattle.link_db.specs.Seen.{seen};
 ghost use Rattle.link_stage.specs.AtStage.{IsAtStage};
 ghost use Rattle.link_loading.specs.Targets.{all_targets, reference_target};
@@ -30,7 +30,8 @@ fn key_of<'a>(symbol: &SymbolView<'a>) -> SymbolKey<'a>
 }
 
 /// What a reference stands for by the names of all batches so far.
-fn looked_up<P: Platform>(db: &SymbolDb<P>, symbol: &SymbolView) -> Option<SymbolId>
+pub fn looked_up<P: Platform>(db: &SymbolDb<P>, symbol: &SymbolView) -> Option<SymbolId>
+    ensures target { result ≡ target_in P.WEAK_SYMBOLS_OVERRIDE_COMMON (name_table_of (seen db.now)) (is_open symbol.now) symbol.now.name symbol.now.version }
     ensures value { (demangle : Bytes → Bytes) (w : Stage) → IsAtStage (platform_of P.Platform) demangle (seen db.now) w → result ≡ target w symbol.now }
     ensures below { IfSome result (λ t. t < length (symbol_names (seen db.now))) }
 {

@@ -12,5 +12,5 @@ pub use columns::{
     visibilities,
 };
 pub use laws::{kept_targets_are_those_of_a_link, marks_make_the_flags};
-pub use marks::{mark_names, mark_symbol, mark_targets};
+pub use marks::{mark_names, mark_symbol, mark_targets, reference_flags};
 pub use targets::loaded_targets;

@@ -37,8 +37,9 @@ fn is_dynamic(dynamic: &[bool], symbol: SymbolId) -> bool
     }
 }
 
-/// What a reference gives to what it stands for.
-fn reference_flags(reference: &SymbolView, is_dynamic: bool) -> ValueFlags
+/// What a reference gives to what it stands for: that it is referred to, and, by the visibility of the reference, that it can't be interposed
+/// or is local. A symbol that a shared file gives isn't bound by a protected reference.
+pub fn reference_flags(reference: &SymbolView, is_dynamic: bool) -> ValueFlags
     ensures { result.0 ≡ reference_flags reference.now is_dynamic }
 {
     ValueFlags::HAS_NON_IR_REF.union(flags_of(reference.visibility(), is_dynamic))

@@ -1,15 +1,16 @@
 -- How all symbols of files are gone through.
-use Rattle.std.specs.Prelude.{ℕ, ◌≡◌, ◌+◌, ◌<◌, ◌≤◌, ◌^◌, List, [], ◌∷◌, ◌++◌, Option, Some, None, MatchOption, drop, length, map}
-use Rattle.std.specs.List.{filter_map, flat_map}
-use Rattle.link_input.specs.InputFiles.{InputFile}
+use Rattle.std.specs.Prelude.{ℕ, ◌≡◌, ◌+◌, ◌<◌, ◌≤◌, ◌^◌, List, [], ◌∷◌, ◌++◌, Option, Some, None, MatchOption, drop, filter, length, map, take}
+use Rattle.std.specs.List.{enumerate_from, filter_map, flat_map}
+use Rattle.link_input.specs.InputFiles.{InputFile, prelude, object, linker_script, stub_library, synthetic}
 use Rattle.link_input.specs.ObjectFile.{ObjectFile}
 use Rattle.link_input.specs.SequencedFiles.{SequencedFile}
-use Rattle.link_input.specs.Symbols.{Symbol, file_symbols, symbols_of}
+use Rattle.link_input.specs.Symbols.{Symbol, file_symbols, object_in, symbols_of}
 use Rattle.link_groups.specs.declared.group.Group.{Group}
 use Rattle.link_groups.specs.declared.sequenced_input.SequencedInput.{SequencedInput}
 use Rattle.link_groups.specs.Groups.{files_of}
 use Rattle.link_groups.specs.SequencedInputs.{sequenced_file}
 use Rattle.link_files.specs.Inputs.{object_of}
+use Rattle.link_rules.specs.Places.{is_number}
 
 -- the files of groups that are left, of which those of the first group before this place are done
 abbrev pub files_from : {P : Type 0} → ℕ → List (Group P) → List SequencedFile
@@ -37,6 +38,26 @@ symbols_left own objects files = own ++ symbols_of objects (without_ids files)
 pub record SymbolsLeft : Type 0 where
   pub next : ℕ
   pub left : List Symbol
+
+-- the symbols that are left, each with its id
+abbrev pub with_ids : SymbolsLeft → List (ℕ × Symbol)
+with_ids s = enumerate_from s.next s.left
+
+-- so many of them, from this place on
+abbrev pub part_of : SymbolsLeft → ℕ → ℕ → SymbolsLeft
+part_of s start count = record { next = s.next + start; left = take count (drop start s.left) }
+
+-- the symbols of a file, if it is an object, before which there are so many objects and symbols
+abbrev pub own_symbols : ℕ → ℕ → InputFile → List SymbolsLeft
+own_symbols n s (prelude symbols) = []
+own_symbols n s (object o) = record { next = s; left = file_symbols n (object o) } ∷ []
+own_symbols n s (linker_script script) = []
+own_symbols n s (stub_library input symbols) = []
+own_symbols n s synthetic = []
+
+-- those of all symbols that stand in the object at this place, each with its id
+abbrev pub symbols_of_object : ℕ → List Symbol → List (ℕ × Symbol)
+symbols_of_object f symbols = filter (λ s. is_number (object_in s.1.origin) f) (enumerate_from 0 symbols)
 
 -- ids can name these symbols, and the objects can be counted
 pub record CanBeNumbered (symbols : SymbolsLeft) (objects : ℕ) (files : List SequencedFile) : Type 0 where

@@ -36,7 +36,7 @@ impl<'a, P: Platform> Model for FileSymbols<'a, P> {
 }
 
 /// How many symbols stand in the table of a file.
-fn symbol_count<P: Platform>(file: &SequencedInput<P>) -> usize
+pub fn symbol_count<P: Platform>(file: &SequencedInput<P>) -> usize
     ensures { result ≡ symbol_count (sequenced_file file.now).file }
 {
     match file {

@@ -4,12 +4,14 @@
 mod all_symbols;
 mod file_list;
 mod file_symbols;
+mod objects;
 mod strengths;
 mod table;
 mod targets;
 mod view;
 
 pub use all_symbols::{AllSymbols, symbols};
+pub use objects::{ObjectSymbols, PartSymbols, object_symbols};
 pub use strengths::{DiscardedSections, surviving_strengths};
 pub use table::{FirstDefinitions, reference_table};
 pub use targets::target_of;

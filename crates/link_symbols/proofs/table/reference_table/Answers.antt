@@ -1,4 +1,4 @@
-use Rattle.std.proofs.Common.{◌≡◌, ◌+◌, ◌<◌, ℕ, All, ap, arith, length, refl, suc, subst, sym}
+use Rattle.std.proofs.Common.{◌≡◌, ◌<◌, All, ap, arith, length, refl, suc, subst, sym}
 use Rattle.std.proofs.lemmas.List.Elements.{All-push}
 use Rattle.link_rules.specs.Rivals.{reference_entry, reference_table}
 use Rattle.link_symbols.proofs.Passing.{each-more}
