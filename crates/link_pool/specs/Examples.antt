@@ -91,6 +91,10 @@ item_is ch n r i it has =
     let same : 0 + i ≡ i = omega arith in
     (at.0, subst (λ k. item_of ch n k ≡ it) same at.1)
 
+-- an item is a third of what is found in it
+pub third_of_found : (x i : ℕ) → x ≡ i * 3 + 1 → x / 3 ≡ i
+third_of_found x i e = omega arith
+
 -- every opening is empty
 zeros : (n k : ℕ) → slice_index (replicate n 0) k ≡ 0
 zeros zero k = refl

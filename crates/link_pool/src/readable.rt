@@ -9,9 +9,10 @@ use link_flags::ValueFlags;
 use link_ids::SymbolId;
 use std::alloc::{AllocError, Global};
 
-/// A plan that also tells what is asked for from the start, what each item asks for, and what is found in it.
+/// A plan that also tells what is asked for from the start, reads each item, and tells by what was found in it what the
+/// item asks for.
 pub trait Readable: Plan {
-    /// What is found in an item.
+    /// What is found in an item, and with it what the item asks for.
     type Found: Drop + Send;
 
     // What is found in the item of each number.
@@ -33,28 +34,37 @@ pub trait Readable: Plan {
     fn root_mark_at(&self, index: usize) -> Option<(SymbolId, ValueFlags)>
         ensures { option_map mark_of_pair result ≡ slice_get (Self.work self.now).root_marks index };
 
-    /// How many files the item requests.
-    fn request_count(&self, item: usize) -> usize
+    /// Reads the item. It refuses only for want of memory.
+    fn read(&self, alloc: Global, item: usize) -> Result<Self::Found, AllocError>
+        requires { item < length (Self.work self.now).items }
+        ensures { IfOk result (found_in self.now item) };
+
+    /// How many files the item requests, by what was found in it.
+    fn request_count(&self, item: usize, found: &Self::Found) -> usize
+        requires { found_in self.now item found.now }
         ensures { (it : Item) → HasItem (Self.work self.now) item it → result ≡ length it.requests };
 
-    /// The file that the item requests at this index.
-    fn request_at(&self, item: usize, index: usize) -> Option<usize>
+    /// The file that the item requests at this index, by what was found in it.
+    fn request_at(&self, item: usize, found: &Self::Found, index: usize) -> Option<usize>
+        requires { found_in self.now item found.now }
         ensures { (it : Item) → HasItem (Self.work self.now) item it → result ≡ slice_get it.requests index };
 
-    /// How many marks the item has.
-    fn mark_count(&self, item: usize) -> usize
+    /// How many marks the item has, by what was found in it.
+    fn mark_count(&self, item: usize, found: &Self::Found) -> usize
+        requires { found_in self.now item found.now }
         ensures { (it : Item) → HasItem (Self.work self.now) item it → result ≡ length it.marks };
 
-    /// The mark that the item has at this index.
-    fn mark_at(&self, item: usize, index: usize) -> Option<(SymbolId, ValueFlags)>
+    /// The mark that the item has at this index, by what was found in it.
+    fn mark_at(
+        &self,
+        item: usize,
+        found: &Self::Found,
+        index: usize,
+    ) -> Option<(SymbolId, ValueFlags)>
+        requires { found_in self.now item found.now }
         ensures { (it : Item) → HasItem (Self.work self.now) item it
             → option_map mark_of_pair result ≡ slice_get it.marks index };
 
     /// The first item of the file, and how many it has. Only hints rest on it.
     fn items_of(&self, file: usize) -> (usize, usize);
-
-    /// What is found in the item.
-    fn read(&self, alloc: Global, item: usize) -> Result<Self::Found, AllocError>
-        requires { item < length (Self.work self.now).items }
-        ensures { IfOk result (found_in self.now item) };
 }

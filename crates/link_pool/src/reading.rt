@@ -1,5 +1,5 @@
 //! One item at a time.
-ghost use Rattle.std.specs.Prelude.{◌≡◌, ◌+◌, ℕ, ◌<◌, length, slice_get, Some, Contains, IfOk};
+ghost use Rattle.std.specs.Prelude.{◌≡◌, ◌+◌, ℕ, ◌<◌, length, slice_get, Some, Contains, IfOk, OnOk};
 ghost use Rattle.link_closure.specs.declared.workload.Item.{Item};
 ghost use Rattle.link_closure.specs.declared.workload.Mark.{Mark};
 ghost use Rattle.link_closure.specs.Workload.{HasItem};
@@ -17,18 +17,20 @@ fn read_request<P: Readable, L: Listener>(
     plan: &P,
     listener: &mut L,
     item: usize,
+    found: &P::Found,
     index: usize,
 )
     requires table { seat.old.table ≡ words.now }
     requires work { seat.old.view.work ≡ P.work plan.now }
     requires item { item < length (P.work plan.now).items }
     requires begun { Contains seat.old.view.known_items item }
+    requires found { P.found_in plan.now item found.now }
     ensures table { seat.new.table ≡ seat.old.table }
     ensures later { IsLater seat.old.view seat.new.view }
     ensures begins { seat.new.view.begins ≡ seat.old.view.begins }
     ensures read { (it : Item) → HasItem (P.work plan.now) item it → (f : ℕ) → slice_get it.requests index ≡ Some f → Contains seat.new.view.known f }
 {
-    let Some(file) = plan.request_at(item, index) else {
+    let Some(file) = plan.request_at(item, found, index) else {
         return;
     };
     if seat.request(words, file) {
@@ -42,18 +44,20 @@ fn read_mark<P: Readable>(
     seat: &mut WorkSeat,
     plan: &P,
     item: usize,
+    found: &P::Found,
     index: usize,
 )
     requires table { seat.old.table ≡ words.now }
     requires work { seat.old.view.work ≡ P.work plan.now }
     requires item { item < length (P.work plan.now).items }
     requires begun { Contains seat.old.view.known_items item }
+    requires found { P.found_in plan.now item found.now }
     ensures table { seat.new.table ≡ seat.old.table }
     ensures later { IsLater seat.old.view seat.new.view }
     ensures begins { seat.new.view.begins ≡ seat.old.view.begins }
     ensures read { (it : Item) → HasItem (P.work plan.now) item it → (m : Mark) → slice_get it.marks index ≡ Some m → Contains seat.new.view.marks m }
 {
-    let Some(mark) = plan.mark_at(item, index) else {
+    let Some(mark) = plan.mark_at(item, found, index) else {
         return;
     };
     AtomicPerSymbolFlags::new(words)
@@ -68,38 +72,48 @@ fn read_requests<P: Readable, L: Listener>(
     plan: &P,
     listener: &mut L,
     item: usize,
+    found: &P::Found,
 )
     requires table { seat.old.table ≡ words.now }
     requires work { seat.old.view.work ≡ P.work plan.now }
     requires item { item < length (P.work plan.now).items }
     requires begun { Contains seat.old.view.known_items item }
+    requires found { P.found_in plan.now item found.now }
     ensures table { seat.new.table ≡ seat.old.table }
     ensures later { IsLater seat.old.view seat.new.view }
     ensures begins { seat.new.view.begins ≡ seat.old.view.begins }
     ensures read { (it : Item) → HasItem (P.work plan.now) item it → (f : ℕ) → Contains it.requests f → Contains seat.new.view.known f }
 {
-    for index in 0..plan.request_count(item) {
-        read_request(words, seat, plan, listener, item, index);
+    for index in 0..plan.request_count(item, found) {
+        read_request(words, seat, plan, listener, item, found, index);
     }
 }
 
 /// Makes all marks of the item.
-fn read_marks<P: Readable>(words: &Words<P>, seat: &mut WorkSeat, plan: &P, item: usize)
+fn read_marks<P: Readable>(
+    words: &Words<P>,
+    seat: &mut WorkSeat,
+    plan: &P,
+    item: usize,
+    found: &P::Found,
+)
     requires table { seat.old.table ≡ words.now }
     requires work { seat.old.view.work ≡ P.work plan.now }
     requires item { item < length (P.work plan.now).items }
     requires begun { Contains seat.old.view.known_items item }
+    requires found { P.found_in plan.now item found.now }
     ensures table { seat.new.table ≡ seat.old.table }
     ensures later { IsLater seat.old.view seat.new.view }
     ensures begins { seat.new.view.begins ≡ seat.old.view.begins }
     ensures read { (it : Item) → HasItem (P.work plan.now) item it → (m : Mark) → Contains it.marks m → Contains seat.new.view.marks m }
 {
-    for index in 0..plan.mark_count(item) {
-        read_mark(words, seat, plan, item, index);
+    for index in 0..plan.mark_count(item, found) {
+        read_mark(words, seat, plan, item, found, index);
     }
 }
 
-/// Reads an item that is begun: all that it asks for, and what is found in it.
+/// Reads an item that is begun, and then makes its requests and marks, by what was found in it. It refuses only for want
+/// of memory, and before it makes any.
 pub(crate) fn read_begun<P: Readable, L: Listener>(
     alloc: Global,
     words: &Words<P>,
@@ -115,10 +129,11 @@ pub(crate) fn read_begun<P: Readable, L: Listener>(
     ensures table { seat.new.table ≡ seat.old.table }
     ensures later { IsLater seat.old.view seat.new.view }
     ensures begins { seat.new.view.begins ≡ seat.old.view.begins }
-    ensures read { HasRead seat.new.view item }
+    ensures read { OnOk result (HasRead seat.new.view item) }
     ensures found { IfOk result (P.found_in plan.now item) }
 {
-    read_requests(words, seat, plan, listener, item);
-    read_marks(words, seat, plan, item);
-    plan.read(alloc, item)
+    let found = plan.read(alloc, item)?;
+    read_requests(words, seat, plan, listener, item, &found);
+    read_marks(words, seat, plan, item, &found);
+    Ok(found)
 }

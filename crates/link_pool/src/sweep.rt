@@ -55,7 +55,7 @@ fn read_anyway<P: Readable, G: Gate>(
     requires may { MayBegin seat.old.view item }
     ensures table { seat.new.table ≡ seat.old.table }
     ensures later { IsLater seat.old.view seat.new.view }
-    ensures read { HasRead seat.new.view item }
+    ensures read { OnOk result (HasRead seat.new.view item) }
     ensures found { IfOk result (P.found_in plan.now item) }
 {
     let began = seat.begin(words, item);

@@ -133,11 +133,16 @@ impl Readable for Scattered {
         }
     }
 
-    fn request_count(&self, _item: usize) -> usize {
+    fn read(&self, _alloc: Global, item: usize) -> Result<usize, AllocError> {
+        Ok(item * 3 + 1)
+    }
+
+    fn request_count(&self, _item: usize, _found: &usize) -> usize {
         2
     }
 
-    fn request_at(&self, item: usize, index: usize) -> Option<usize> {
+    fn request_at(&self, _item: usize, found: &usize, index: usize) -> Option<usize> {
+        let item = *found / 3;
         if item >= self.files {
             return None;
         }
@@ -148,23 +153,19 @@ impl Readable for Scattered {
         }
     }
 
-    fn mark_count(&self, _item: usize) -> usize {
+    fn mark_count(&self, _item: usize, _found: &usize) -> usize {
         1
     }
 
-    fn mark_at(&self, item: usize, index: usize) -> Option<(SymbolId, ValueFlags)> {
+    fn mark_at(&self, _item: usize, found: &usize, index: usize) -> Option<(SymbolId, ValueFlags)> {
         match index {
-            0 => Some((SymbolId::from_usize(item % 8), ValueFlags::DYNAMIC)),
+            0 => Some((SymbolId::from_usize(*found / 3 % 8), ValueFlags::DYNAMIC)),
             _ => None,
         }
     }
 
     fn items_of(&self, file: usize) -> (usize, usize) {
         (file, usize::from(!self.chain))
-    }
-
-    fn read(&self, _alloc: Global, item: usize) -> Result<usize, AllocError> {
-        Ok(item * 3 + 1)
     }
 }
 

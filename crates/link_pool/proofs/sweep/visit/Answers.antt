@@ -38,7 +38,7 @@ returns-clause-found g c =
     let may = may_begin w u c.args.item c.file_of.result (c.check.ensures.later.same ∙ c.requires.work) lt c.file_of.ensures c.if-not-check.ensures.known in
     let later = later_then c.check.ensures.later c.read_anyway.ensures.later in
     found_set found z c.args.results.now c.args.item x (are_found_later found v z c.args.results.now later c.requires.found)
-    (found_now found u z c.args.item x may c.read_anyway.ensures.later c.read_anyway.ensures.read c.in_ok-found.ensures.found)
+    (found_now found u z c.args.item x may c.read_anyway.ensures.later c.in_ok-found.ensures.read c.in_ok-found.ensures.found)
 
 pub returns-clause-visit : goal.returns-clause-visit
 returns-clause-visit g c = missing_set c.args.results.now c.args.item c.in_ok-found.found c.if-not-is_missing.ensures.missing

@@ -5,4 +5,4 @@ pub returns-clause-found : goal.returns-clause-found
 returns-clause-found g c =
     let begun = c.if-not-begin_hinted.ensures.begun in
     found_now (g.P.Readable.found_in c.args.plan.now) c.begin_hinted.new.seat.view c.read_begun-found.new.seat.view c.args.hint.item c.in_ok-found.field-0
-    begun.2 c.read_begun-found.ensures.later c.read_begun-found.ensures.read c.in_ok-found.ensures.found
+    begun.2 c.read_begun-found.ensures.later c.in_ok-found.ensures.read c.in_ok-found.ensures.found
