@@ -1,3 +1,4 @@
 mod Keys
+mod OneKey
 mod PassingTables
 mod Distinct

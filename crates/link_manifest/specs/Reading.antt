@@ -1,6 +1,8 @@
 -- What reading a value gives: what it stands for, or its first fault, with the path from the value to it.
-use Rattle.std.specs.Prelude.{◌≡◌, ℕ, ◌+◌, List, [], ◌∷◌, cond, Option, Some, None, is_some, Result, Ok, Err, ⊤, if◌then◌else◌}
+use Rattle.std.specs.Prelude.{◌≡◌, ℕ, ◌+◌, List, [], ◌∷◌, true, Bool, cond, Option, Some, None, is_some, Result, Ok, Err, ⊤, if◌then◌else◌}
 use Rattle.std.specs.List.{list_any}
+use Rattle.std.specs.Cmp.Lexicographic.{slice_cmp}
+use Rattle.std.specs.Ordering.{is_lt, nat_cmp}
 use Rattle.std.specs.Str.{bytes_eq}
 use Rattle.serde_json.specs.Data.{Data, Items, no_items, item, Members, no_members, member}
 use Rattle.serde_json.specs.Find.{get, as_array, as_null, as_object}
@@ -44,6 +46,15 @@ read_or problem (Some value) = Ok value
 abbrev pub unknown_key : List (List ℕ) → Members → Option (List ℕ)
 unknown_key known no_members = None
 unknown_key known (member key value members) = cond (list_any (λ k. bytes_eq k key) known) (unknown_key known members) (Some key)
+
+-- the key comes before the other one, or there is no other
+abbrev pub is_sooner : List ℕ → Option (List ℕ) → Bool
+is_sooner key None = true
+is_sooner key (Some other) = is_lt (slice_cmp nat_cmp key other)
+
+-- the least unknown key among those so far and one more
+abbrev pub with_key : List (List ℕ) → List ℕ → Option (List ℕ) → Option (List ℕ)
+with_key known key least = cond (list_any (λ k. bytes_eq k key) known) least (cond (is_sooner key least) (Some key) least)
 
 -- there is no unknown key
 abbrev pub none_unknown : Option (List ℕ) → Result ⊤ ManifestFault

@@ -6,8 +6,8 @@ use crate::fault::ManifestError;
 use crate::reading::{Readable, nullable, object_of_keys, optional_list, required};
 use crate::redirects::ScriptSymbol;
 use crate::values::{Bytes, Text};
+use json::Value;
 use link_input::{ProcessedLinkerScript, StubLibrary};
-use serde_json::Value;
 use std::alloc::Global;
 
 /// A linker script.
@@ -18,7 +18,7 @@ impl Readable for Script {
 
     ghost read = { script_read };
 
-    fn read(alloc: Global, value: &Value) -> Result<ProcessedLinkerScript, ManifestError> {
+    fn read(alloc: Global, value: &Value<'_>) -> Result<ProcessedLinkerScript, ManifestError> {
         object_of_keys(alloc, value, &["name", "entry", "version", "symbols"])?;
         let input = required::<Text>(alloc, value, "name")?;
         let entry = nullable::<Bytes>(alloc, value, "entry")?;
@@ -41,7 +41,7 @@ impl Readable for Stub {
 
     ghost read = { stub_read };
 
-    fn read(alloc: Global, value: &Value) -> Result<StubLibrary, ManifestError> {
+    fn read(alloc: Global, value: &Value<'_>) -> Result<StubLibrary, ManifestError> {
         object_of_keys(alloc, value, &["name", "strong", "weak"])?;
         let input = required::<Text>(alloc, value, "name")?;
         let strong = optional_list::<Bytes>(alloc, value, "strong")?;

@@ -1,7 +1,7 @@
 //! The options that a manifest gives.
 
 ghost use Rattle.std.specs.Prelude.{◌≡◌, codes, IfOk};
-ghost use Rattle.serde_json.specs.View.{view};
+ghost use Rattle.link_json.specs.Tree.{view};
 ghost use Rattle.link_manifest.specs.Checked.{IsGroupSize};
 ghost use Rattle.link_manifest.specs.LinkOptions.{placement_at, linker_symbol_read, options_read, texts_read};
 ghost use Rattle.link_manifest.specs.Reading.{optional, Reads};
@@ -12,8 +12,8 @@ use crate::reading::{Readable, nullable, object_of_keys, optional, optional_list
 use crate::redirects::Defsym;
 use crate::values::{Bytes, Flag, GroupSize, Number};
 use crate::words::{OneOf, PlacementName};
+use json::Value;
 use link_input::{InternalSymDefInfo, Options, OutputKind, Scripts, SymbolPlacement};
-use serde_json::Value;
 use std::alloc::Global;
 
 /// Where a symbol of the linker stands, of this section where the place is of one.
@@ -38,7 +38,7 @@ impl Readable for LinkerSymbol {
 
     ghost read = { linker_symbol_read };
 
-    fn read(alloc: Global, value: &Value) -> Result<InternalSymDefInfo, ManifestError> {
+    fn read(alloc: Global, value: &Value<'_>) -> Result<InternalSymDefInfo, ManifestError> {
         object_of_keys(alloc, value, &["name", "placement", "section", "hidden"])?;
         let name = required::<Bytes>(alloc, value, "name")?;
         let placement = required::<OneOf<PlacementName>>(alloc, value, "placement")?;
@@ -53,7 +53,7 @@ impl Readable for LinkerSymbol {
 }
 
 /// At most how many files are to be one group.
-fn files_per_group(alloc: Global, value: &Value) -> Result<u32, ManifestError>
+fn files_per_group(alloc: Global, value: &Value<'_>) -> Result<u32, ManifestError>
     ensures read { Reads result (optional (codes "files_per_group") group_size_read 256 (view value.now)) }
     ensures range { IfOk result (λ size. IsGroupSize size) }
 {
@@ -61,7 +61,7 @@ fn files_per_group(alloc: Global, value: &Value) -> Result<u32, ManifestError>
 }
 
 /// The options, of which the root holds the keys.
-pub(crate) fn options(alloc: Global, value: &Value) -> Result<Options, ManifestError>
+pub(crate) fn options(alloc: Global, value: &Value<'_>) -> Result<Options, ManifestError>
     ensures read { Reads result (options_read (view value.now)) }
     ensures group_size { IfOk result (λ options. IsGroupSize options.files_per_group) }
 {
@@ -94,7 +94,7 @@ pub(crate) fn options(alloc: Global, value: &Value) -> Result<Options, ManifestE
 }
 
 /// The texts of the version script and of the export list, of which the root holds the keys.
-pub(crate) fn texts(alloc: Global, value: &Value) -> Result<Scripts, ManifestError>
+pub(crate) fn texts(alloc: Global, value: &Value<'_>) -> Result<Scripts, ManifestError>
     ensures { Reads result (texts_read (view value.now)) }
 {
     let version_script = nullable::<Bytes>(alloc, value, "version_script")?;

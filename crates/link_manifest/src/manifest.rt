@@ -1,7 +1,7 @@
 //! A manifest, and which bytes are one.
 
 ghost use Rattle.std.specs.Prelude.{◌≡◌, Ok, Err, IfOk, IfErr};
-ghost use Rattle.serde_json.specs.View.{view};
+ghost use Rattle.link_json.specs.Tree.{view};
 ghost use Rattle.link_manifest.specs.declared.fault.ManifestFault.{ManifestFault};
 ghost use Rattle.link_manifest.specs.Checked.{AreDistinct, HasDistinctSections, HasGroupSize, IsGroupSize, contents_checked};
 ghost use Rattle.link_manifest.specs.Manifest.{contents_read, json_of, manifest_of, root_read, tree_of, world_of, world_read};
@@ -17,9 +17,9 @@ use crate::reading::{object_of_keys, optional, optional_list};
 use crate::sections::sections_checked;
 use crate::tables::checked_objects;
 use crate::words::{OneOf, PlatformName};
+use json::{Scratch, Value};
 use link_input::{ElfLike, Inputs, MachLike, Platform, World};
 use link_names::text_of;
-use serde_json::Value;
 use std::alloc::Global;
 use std::mem::ManuallyDrop;
 
@@ -34,7 +34,7 @@ pub enum Manifest {
 }
 
 /// What the root says behind its platform.
-fn contents<P: Platform>(alloc: Global, value: &Value) -> Result<Contents, ManifestError>
+fn contents<P: Platform>(alloc: Global, value: &Value<'_>) -> Result<Contents, ManifestError>
     ensures read { Reads result (contents_read P.HAS_NULL_SYMBOL_ENTRY (view value.now)) }
     ensures group_size { IfOk result (λ contents. IsGroupSize contents.options.files_per_group) }
 {
@@ -78,7 +78,7 @@ fn checked_world<P: Platform>(alloc: Global, contents: Contents) -> Result<World
 }
 
 /// The world that the root of a tree describes.
-fn world<P: Platform>(alloc: Global, value: &Value) -> Result<World<P>, ManifestError>
+fn world<P: Platform>(alloc: Global, value: &Value<'_>) -> Result<World<P>, ManifestError>
     ensures read { Reads result (world_read P.HAS_NULL_SYMBOL_ENTRY (view value.now)) }
     ensures group_size { IfOk result (λ world. IsGroupSize world.options.files_per_group) }
     ensures distinct { IfOk result (λ world. AreDistinct world.options.custom_sections) }
@@ -88,7 +88,7 @@ fn world<P: Platform>(alloc: Global, value: &Value) -> Result<World<P>, Manifest
 }
 
 /// The manifest that a tree describes.
-fn root(alloc: Global, value: &Value) -> Result<Manifest, ManifestError>
+fn root(alloc: Global, value: &Value<'_>) -> Result<Manifest, ManifestError>
     ensures read { Reads result (root_read (view value.now)) }
     ensures group_size { IfOk result HasGroupSize }
     ensures distinct { IfOk result HasDistinctSections }
@@ -123,29 +123,36 @@ fn root(alloc: Global, value: &Value) -> Result<Manifest, ManifestError>
 }
 
 /// The JSON value of some bytes.
-fn json_of(alloc: Global, bytes: &[u8]) -> Result<Value, ManifestError>
+fn json_of<'a>(
+    alloc: Global,
+    bytes: &'a [u8],
+    scratch: &'a mut Scratch,
+) -> Result<Value<'a>, ManifestError>
     ensures value { IfOk result (λ value. json_of bytes.now ≡ Some (view value)) }
     ensures none { IfErr result (λ error. IsFaultOf error (read_or Problem.NotJson (json_of bytes.now))) }
 {
     let Some(text) = text_of(bytes) else {
         return Err(fault_here(alloc, Problem::NotJson));
     };
-    match Value::from_str(alloc, text) {
-        Ok(value) => Ok(value),
-        Err(error) if error.is_memory() => Err(ManifestError::Memory),
-        Err(_) => Err(fault_here(alloc, Problem::NotJson)),
+    match link_json::tree_of(alloc, text, scratch)? {
+        Some(value) => Ok(value),
+        None => Err(fault_here(alloc, Problem::NotJson)),
     }
 }
 
 /// The JSON value of bytes that are not too many.
-fn tree_of(alloc: Global, bytes: &[u8]) -> Result<Value, ManifestError>
+fn tree_of<'a>(
+    alloc: Global,
+    bytes: &'a [u8],
+    scratch: &'a mut Scratch,
+) -> Result<Value<'a>, ManifestError>
     ensures value { IfOk result (λ value. tree_of bytes.now ≡ Ok (view value)) }
     ensures none { IfErr result (λ error. IsFaultOf error (tree_of bytes.now)) }
 {
     if bytes.len() > MAX_BYTES {
         return Err(fault_here(alloc, Problem::TooLong));
     }
-    json_of(alloc, bytes)
+    json_of(alloc, bytes, scratch)
 }
 
 /// The manifest that some bytes are: one JSON value of at most [`MAX_BYTES`] bytes in UTF-8 (RFC
@@ -166,12 +173,13 @@ pub fn manifest_of(alloc: Global, bytes: &[u8]) -> Result<Manifest, ManifestErro
     ensures group_size { IfOk result HasGroupSize }
     ensures distinct { IfOk result HasDistinctSections }
 {
-    let value = tree_of(alloc, bytes)?;
+    let mut scratch = Scratch::new(alloc);
+    let value = tree_of(alloc, bytes, &mut scratch)?;
     root(alloc, &value)
 }
 
 /// The same answer as that of [`manifest_of`], but the JSON value is never taken apart: its memory,
-/// some ten times the bytes, stays taken until the program ends. It is for a program that reads one
+/// some four times the bytes, stays taken until the program ends. It is for a program that reads one
 /// manifest and ends. Taking a large value apart is slow, and memory that was handed back piece by
 /// piece slows down all that is made later.
 pub fn manifest_leaking_tree(alloc: Global, bytes: &[u8]) -> Result<Manifest, ManifestError>
@@ -180,6 +188,7 @@ pub fn manifest_leaking_tree(alloc: Global, bytes: &[u8]) -> Result<Manifest, Ma
     ensures group_size { IfOk result HasGroupSize }
     ensures distinct { IfOk result HasDistinctSections }
 {
-    let value = ManuallyDrop::new(tree_of(alloc, bytes)?);
+    let mut scratch = Scratch::new(alloc);
+    let value = ManuallyDrop::new(tree_of(alloc, bytes, &mut scratch)?);
     root(alloc, &value)
 }

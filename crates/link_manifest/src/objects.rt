@@ -1,6 +1,6 @@
 //! The objects of a manifest, and their section groups.
 
-ghost use Rattle.serde_json.specs.View.{view};
+ghost use Rattle.link_json.specs.Tree.{view};
 ghost use Rattle.link_manifest.specs.Objects.{group_read, object_keys, object_read};
 ghost use Rattle.link_manifest.specs.Reading.{object_of_keys, Reads};
 
@@ -9,9 +9,9 @@ use crate::fault::ManifestError;
 use crate::reading::{Readable, object_of_keys, optional, optional_list, required};
 use crate::symbols::{Table, entries_before};
 use crate::values::{Bytes, Flag, Number, Text};
+use json::Value;
 use link_input::{Modifiers, ObjectTable, Platform, SectionGroup};
 use link_names::Seq;
-use serde_json::Value;
 use std::alloc::Global;
 use std::marker::PhantomData;
 
@@ -23,7 +23,7 @@ impl Readable for Group {
 
     ghost read = { group_read };
 
-    fn read(alloc: Global, value: &Value) -> Result<SectionGroup, ManifestError> {
+    fn read(alloc: Global, value: &Value<'_>) -> Result<SectionGroup, ManifestError> {
         object_of_keys(alloc, value, &["header", "signature", "comdat", "members"])?;
         let index = required::<Number>(alloc, value, "header")?;
         let signature_symbol = required::<Number>(alloc, value, "signature")?;
@@ -39,7 +39,7 @@ impl Readable for Group {
 }
 
 /// The value is a JSON object that has no other keys than an object of a link.
-fn known_keys(alloc: Global, value: &Value) -> Result<(), ManifestError>
+fn known_keys(alloc: Global, value: &Value<'_>) -> Result<(), ManifestError>
     ensures { Reads result (object_of_keys object_keys (view value.now)) }
 {
     object_of_keys(
@@ -69,7 +69,7 @@ impl<P: Platform> Readable for Object<P> {
 
     ghost read = { object_read P.HAS_NULL_SYMBOL_ENTRY };
 
-    fn read(alloc: Global, value: &Value) -> Result<UncheckedObject, ManifestError> {
+    fn read(alloc: Global, value: &Value<'_>) -> Result<UncheckedObject, ManifestError> {
         known_keys(alloc, value)?;
         let input = required::<Text>(alloc, value, "name")?;
         let is_dynamic = optional::<Flag>(alloc, value, "dynamic", false)?;

@@ -6,9 +6,9 @@ ghost use Rattle.link_manifest.specs.Redirects.{redirect_of, defsym_read, script
 use crate::fault::ManifestError;
 use crate::reading::{Readable, object_of_keys, optional, optional_list, required};
 use crate::values::{Bytes, Flag};
+use json::Value;
 use link_input::{InternalSymDefInfo, Redirect, RedirectKind, SymbolLoc, SymbolPlacement};
 use link_names::{Name, Seq};
-use serde_json::Value;
 use std::alloc::Global;
 
 /// A symbol that is defined as other names.
@@ -39,7 +39,7 @@ impl Readable for Defsym {
 
     ghost read = { defsym_read };
 
-    fn read(alloc: Global, value: &Value) -> Result<InternalSymDefInfo, ManifestError> {
+    fn read(alloc: Global, value: &Value<'_>) -> Result<InternalSymDefInfo, ManifestError> {
         object_of_keys(alloc, value, &["name", "targets"])?;
         let name = required::<Bytes>(alloc, value, "name")?;
         let targets = optional_list::<Bytes>(alloc, value, "targets")?;
@@ -66,7 +66,7 @@ impl Readable for ScriptSymbol {
 
     ghost read = { script_symbol_read };
 
-    fn read(alloc: Global, value: &Value) -> Result<InternalSymDefInfo, ManifestError> {
+    fn read(alloc: Global, value: &Value<'_>) -> Result<InternalSymDefInfo, ManifestError> {
         object_of_keys(alloc, value, &["name", "targets", "hidden", "provide"])?;
         let name = required::<Bytes>(alloc, value, "name")?;
         let targets = optional_list::<Bytes>(alloc, value, "targets")?;

@@ -8,10 +8,10 @@ use crate::path::fault_here;
 use crate::reading::{Readable, items, nullable, object_of_keys, optional, required};
 use crate::values::{Bytes, Flag, Size, SymbolPlace};
 use crate::words::OneOf;
+use json::Value;
 use link_flags::Visibility;
 use link_input::{Place, Platform, SymbolBinding, SymbolEntry, SymbolKind};
 use link_names::{Name, Seq};
-use serde_json::Value;
 use std::alloc::{AllocError, Global};
 use std::marker::PhantomData;
 
@@ -23,7 +23,7 @@ impl Readable for Symbol {
 
     ghost read = { symbol_read };
 
-    fn read(alloc: Global, value: &Value) -> Result<SymbolEntry, ManifestError> {
+    fn read(alloc: Global, value: &Value<'_>) -> Result<SymbolEntry, ManifestError> {
         object_of_keys(
             alloc,
             value,
@@ -94,8 +94,8 @@ impl<P: Platform> Readable for Table<P> {
 
     ghost read = { table_read P.HAS_NULL_SYMBOL_ENTRY };
 
-    fn read(alloc: Global, value: &Value) -> Result<Seq<SymbolEntry>, ManifestError> {
-        match value.as_array() {
+    fn read(alloc: Global, value: &Value<'_>) -> Result<Seq<SymbolEntry>, ManifestError> {
+        match link_json::items(value) {
             Some(values) => items::<Symbol>(alloc, values, entries_before::<P>(alloc)?),
             None => Err(fault_here(alloc, Problem::Expected(Kind::List))),
         }

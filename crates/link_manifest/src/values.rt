@@ -2,7 +2,7 @@
 
 ghost use Rattle.std.specs.Prelude.{◌≡◌, option_map};
 ghost use Rattle.serde_json.specs.Find.{as_str};
-ghost use Rattle.serde_json.specs.View.{view, members_view};
+ghost use Rattle.link_json.specs.Tree.{view, members_view};
 ghost use Rattle.link_names.specs.Names.{value_in};
 ghost use Rattle.link_manifest.specs.declared.fault.Kind.TheVariants as kind;
 ghost use Rattle.link_manifest.specs.declared.fault.Problem.TheVariants.{Expected};
@@ -13,9 +13,10 @@ use crate::fault::{Kind, ManifestError, Problem};
 use crate::path::fault_here;
 use crate::reading::Readable;
 use hex::FromHexError;
+use json::Value;
 use link_input::Place;
+use link_json::{to_bool, to_text, to_u64};
 use link_names::Name;
-use serde_json::{Map, Value};
 use std::alloc::Global;
 
 /// A JSON text.
@@ -26,8 +27,8 @@ impl Readable for Text {
 
     ghost read = { text_read };
 
-    fn read(alloc: Global, value: &Value) -> Result<Name, ManifestError> {
-        match value.as_str() {
+    fn read(alloc: Global, value: &Value<'_>) -> Result<Name, ManifestError> {
+        match to_text(value) {
             Some(text) => Ok(Name::from_slice(alloc, text.as_bytes())?),
             None => Err(fault_here(alloc, Problem::Expected(Kind::Text))),
         }
@@ -38,15 +39,17 @@ impl Readable for Text {
 pub(crate) struct Bytes;
 
 /// The text of the one key of an object, where that key is `hex`.
-fn hex_text(members: &Map<String, Value>) -> Option<&str>
-    ensures { option_map (λ t. t.now) result ≡ hex_text (members_view members.now.entries) }
+fn hex_text<'a>(members: &[(&'a str, Value<'a>)]) -> Option<&'a str>
+    ensures { option_map (λ t. t.now) result ≡ hex_text (members_view members.now) }
 {
-    let mut entries = members.iter();
-    let (key, value) = entries.next()?;
-    if entries.next().is_some() || key.as_str() != "hex" {
-        return None;
+    let mut text = None;
+    for member in members {
+        if member.0 != "hex" {
+            return None;
+        }
+        text = to_text(&member.1);
     }
-    value.as_str()
+    text
 }
 
 /// The bytes that hexadecimal digits spell.
@@ -65,11 +68,11 @@ impl Readable for Bytes {
 
     ghost read = { bytes_read };
 
-    fn read(alloc: Global, value: &Value) -> Result<Name, ManifestError> {
-        if let Some(text) = value.as_str() {
+    fn read(alloc: Global, value: &Value<'_>) -> Result<Name, ManifestError> {
+        if let Some(text) = to_text(value) {
             return Ok(Name::from_slice(alloc, text.as_bytes())?);
         }
-        match value.as_object().and_then(hex_text) {
+        match link_json::members(value).and_then(hex_text) {
             Some(digits) => hex_bytes(alloc, digits),
             None => Err(fault_here(alloc, Problem::Expected(Kind::Bytes))),
         }
@@ -84,8 +87,8 @@ impl Readable for Flag {
 
     ghost read = { bool_read };
 
-    fn read(alloc: Global, value: &Value) -> Result<bool, ManifestError> {
-        match value.as_bool() {
+    fn read(alloc: Global, value: &Value<'_>) -> Result<bool, ManifestError> {
+        match to_bool(value) {
             Some(flag) => Ok(flag),
             None => Err(fault_here(alloc, Problem::Expected(Kind::Bool))),
         }
@@ -96,10 +99,10 @@ impl Readable for Flag {
 pub(crate) struct Number;
 
 /// A whole number without fraction or exponent, below 2^32.
-fn number_of(value: &Value) -> Option<u32>
+fn number_of(value: &Value<'_>) -> Option<u32>
     ensures { result ≡ number_of (view value.now) }
 {
-    let number = value.as_u64()?;
+    let number = to_u64(value)?;
     if number > u32::MAX as u64 {
         return None;
     }
@@ -111,7 +114,7 @@ impl Readable for Number {
 
     ghost read = { number_read };
 
-    fn read(alloc: Global, value: &Value) -> Result<u32, ManifestError> {
+    fn read(alloc: Global, value: &Value<'_>) -> Result<u32, ManifestError> {
         match number_of(value) {
             Some(number) => Ok(number),
             None => Err(fault_here(alloc, Problem::Expected(Kind::Number))),
@@ -127,8 +130,8 @@ impl Readable for Size {
 
     ghost read = { size_read };
 
-    fn read(alloc: Global, value: &Value) -> Result<u64, ManifestError> {
-        match value.as_u64() {
+    fn read(alloc: Global, value: &Value<'_>) -> Result<u64, ManifestError> {
+        match to_u64(value) {
             Some(size) => Ok(size),
             None => Err(fault_here(alloc, Problem::Expected(Kind::Number))),
         }
@@ -139,7 +142,7 @@ impl Readable for Size {
 pub(crate) struct GroupSize;
 
 /// A number from 1 to 256.
-fn group_size_of(value: &Value) -> Option<u32>
+fn group_size_of(value: &Value<'_>) -> Option<u32>
     ensures { result ≡ group_size_of (view value.now) }
 {
     let size = number_of(value)?;
@@ -154,7 +157,7 @@ impl Readable for GroupSize {
 
     ghost read = { group_size_read };
 
-    fn read(alloc: Global, value: &Value) -> Result<u32, ManifestError> {
+    fn read(alloc: Global, value: &Value<'_>) -> Result<u32, ManifestError> {
         match group_size_of(value) {
             Some(size) => Ok(size),
             None => Err(fault_here(alloc, Problem::Expected(Kind::Number))),
@@ -178,10 +181,10 @@ fn place_word(word: &str) -> Option<Place>
 }
 
 /// The place that a word stands for, or the number of a section.
-fn place_of(value: &Value) -> Option<Place>
+fn place_of(value: &Value<'_>) -> Option<Place>
     ensures { result ≡ place_of (as_str (view value.now)) (number_of (view value.now)) }
 {
-    match value.as_str() {
+    match to_text(value) {
         Some(word) => place_word(word),
         None => Some(Place::Section(number_of(value)?)),
     }
@@ -192,7 +195,7 @@ impl Readable for SymbolPlace {
 
     ghost read = { place_read };
 
-    fn read(alloc: Global, value: &Value) -> Result<Place, ManifestError> {
+    fn read(alloc: Global, value: &Value<'_>) -> Result<Place, ManifestError> {
         match place_of(value) {
             Some(place) => Ok(place),
             None => Err(fault_here(alloc, Problem::Expected(Kind::Place))),

@@ -7,9 +7,10 @@ ghost use Rattle.link_manifest.specs.Words.{word_read, platform_words, output_wo
 use crate::fault::{Kind, ManifestError, Problem};
 use crate::path::fault_here;
 use crate::reading::Readable;
+use json::Value;
 use link_flags::Visibility;
 use link_input::{OutputKind, SymbolBinding, SymbolKind};
-use serde_json::Value;
+use link_json::to_text;
 use std::alloc::Global;
 use std::marker::PhantomData;
 
@@ -141,8 +142,8 @@ impl<W: Word> Readable for OneOf<W> {
 
     ghost read = { word_read W.words };
 
-    fn read(alloc: Global, value: &Value) -> Result<W, ManifestError> {
-        match word_of(value.as_str()) {
+    fn read(alloc: Global, value: &Value<'_>) -> Result<W, ManifestError> {
+        match word_of(to_text(value)) {
             Some(found) => Ok(found),
             None => Err(fault_here(alloc, Problem::Expected(Kind::Word))),
         }
