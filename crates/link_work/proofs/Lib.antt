@@ -1,0 +1,5 @@
+pub mod Parts
+pub mod Same
+pub mod Sound
+pub mod Rooted
+pub mod Told

@@ -1,0 +1,69 @@
+-- What a plan tells of its items, its flags and its roots.
+use Rattle.std.proofs.Common.{◌≡◌, ◌<◌, ◌≤◌, ◌∙◌, ℕ, zero, suc, Bool, List, [], ◌∷◌, Some, Contains, filter, length, map, refl, sym, ap, subst, arith, slice_get, slice_index, Result, Ok, Err, IfOk}
+use Rattle.std.specs.Prelude.{◌↔◌, IsTrue}
+use Rattle.std.specs.List.{range_with_len}
+use Rattle.std.proofs.lemmas.List.FromFn.{get_or-map-range_with_len}
+use Rattle.link_closure.specs.Closure.{is_marked}
+use Rattle.link_closure.specs.declared.workload.Item.{Item}
+use Rattle.link_flags.specs.FlagWords.{bits_at, numbers_of}
+use Rattle.link_flags.specs.declared.value_flags.RawFlags.{RawFlags}
+use Rattle.link_rules.proofs.Members.{kept_in, range_in}
+use Rattle.link_rules.proofs.Twice.{passes}
+use Rattle.link_symbols.specs.Walk.{SymbolsLeft}
+use Rattle.link_work.specs.declared.found.FoundItem.{FoundItem}
+use Rattle.link_work.specs.declared.found.FoundReference.{FoundReference}
+use Rattle.link_work.specs.declared.items.WorkItem.{WorkItem}
+use Rattle.link_work.specs.Asked.{IsFoundIn, Known, found_mark, found_target}
+use Rattle.link_work.specs.Items.{symbols_of_item}
+use Rattle.link_work.specs.Planned.{item_by, opening_of}
+use Rattle.link_work.proofs.Sound.{made-item}
+
+module _ (known : Known) (objects : List SymbolsLeft) (items : List WorkItem) (i : ℕ) (it : Item) (found : FoundItem)
+    (is : (z : WorkItem) → slice_get items i ≡ Some z → IsFoundIn known (symbols_of_item objects z) found) (at : slice_get (map (item_by known objects) items) i ≡ Some it) where
+  -- what was found requests what the item does
+  pub told-requests : found.requests.items ≡ it.requests
+  told-requests =
+      let z = made-item known objects items i it at in
+      (is z.0 z.1).requests ∙ ap (λ (j : Item). j.requests) z.2
+
+  -- and marks what it does
+  pub told-marks : map found_mark found.references.items ≡ it.marks
+  told-marks =
+      let z = made-item known objects items i it at in
+      (is z.0 z.1).marks ∙ ap (λ (j : Item). j.marks) z.2
+
+-- the root of a mark
+pub root-is : (marks : List Bool) (roots : List ℕ) (f : ℕ) → roots ≡ filter (is_marked marks) (range_with_len 0 (length marks)) → f < length marks → IsTrue (is_marked marks f) ↔ Contains roots f
+root-is marks roots f is below = (
+  λ marked. subst (λ (l : List ℕ). Contains l f) (sym is) (kept_in (is_marked marks) (range_with_len 0 (length marks)) f (range_in (length marks) f below) marked),
+  λ within. passes (is_marked marks) (range_with_len 0 (length marks)) f (subst (λ (l : List ℕ). Contains l f) is within),
+)
+
+-- the number of a word
+pub word-number : (words : List RawFlags) (s : ℕ) → slice_index (numbers_of words) s ≡ bits_at words s
+word-number [] s = refl
+word-number (w ∷ ws) zero = refl
+word-number (w ∷ ws) (suc s) = word-number ws s
+
+-- the flags with which a symbol begins
+pub opens-with : (n s : ℕ) (words : List RawFlags) → s < n → slice_index (opening_of n (numbers_of words)) s ≡ bits_at words s
+opens-with n s words below = get_or-map-range_with_len (slice_index (numbers_of words)) 0 n s s 0 below (omega arith) ∙ word-number words s
+
+-- past the end there are none
+pub no-flags : (words : List RawFlags) (s : ℕ) → length words ≤ s → bits_at words s ≡ 0
+no-flags [] s past = refl
+no-flags (w ∷ ws) zero past = absurd (omega arith)
+no-flags (w ∷ ws) (suc s) past = no-flags ws s (omega arith)
+
+-- what holds of what is there holds of what follows from it
+pub ok-each : {T E : Type 0} (r : Result T E) (P Q : T → Type 0) → IfOk r P → ((x : T) → P x → Q x) → IfOk r Q
+ok-each (Ok x) P Q held each = each x held
+ok-each (Err e) P Q held each = held
+
+-- nothing is found in no symbols
+pub nothing-found : (known : Known) (found : FoundItem) → found.requests.items ≡ [] → found.references.items ≡ [] → IsFoundIn known [] found
+nothing-found known found requests references = record {
+  requests = requests;
+  targets = ap (λ (rs : List FoundReference). map found_target rs) references;
+  marks = ap (λ (rs : List FoundReference). map found_mark rs) references;
+}

@@ -1,0 +1,67 @@
+-- What the symbols of items stand for and ask for, told by where symbols stand, by what earlier batches settled, and by what names mean.
+use Rattle.std.specs.Prelude.{◌≡◌, ℕ, List, map, Bool, false, Option, None, if◌then◌else◌, is_some, option_map, option_to_list, slice_get}
+use Rattle.std.specs.List.{flat_map}
+use Rattle.std.specs.Option.{option_map_or}
+use Rattle.link_closure.specs.declared.workload.Mark.{Mark}
+use Rattle.link_input.specs.Symbols.{Symbol}
+use Rattle.link_rules.specs.Marking.{reference_flags}
+use Rattle.link_rules.specs.Targets.{is_open, target_in}
+use Rattle.link_rules.specs.World.{is_reference}
+use Rattle.link_symbols.specs.Lookups.{target_at}
+use Rattle.link_loading.specs.declared.sources.SymbolSource.{SymbolSource}
+use Rattle.link_loading.specs.Requests.{request_by}
+use Rattle.link_db.specs.Database.{Database, name_table_of}
+use Rattle.link_work.specs.declared.found.FoundItem.{FoundItem}
+use Rattle.link_work.specs.declared.found.FoundReference.{FoundReference}
+
+-- where each symbol stands, what the references of earlier batches stand for, and what any other reference stands for
+pub record Known : Type 0 where
+  pub sources : List SymbolSource
+  pub settled : List (Option ℕ)
+  pub target : Symbol → Option ℕ
+
+-- what is known by a database, on a platform that lets weak definitions pass by common ones or not
+abbrev pub known_by : {P : Type 0} → Bool → Database P → List SymbolSource → List (Option ℕ) → Known
+known_by weak_overrides_common db sources settled = record {
+  sources = sources;
+  settled = settled;
+  target = λ x. target_in weak_overrides_common (name_table_of db) (is_open x) x.name x.version;
+}
+
+-- what a symbol stands for anew, where it is a reference: what an earlier batch settled is done
+abbrev pub new_target : Known → ℕ × Symbol → Option ℕ
+new_target known s = if is_some (target_at known.settled s.0) then None else (if is_reference s.1 then known.target s.1 else None)
+
+-- whether the symbol of this id stands in a shared file
+abbrev pub is_shared_by : List SymbolSource → ℕ → Bool
+is_shared_by sources t = option_map_or (λ s. s.is_shared) (slice_get sources t) false
+
+-- the object that it requests
+abbrev pub requests_by : Known → ℕ × Symbol → List ℕ
+requests_by known s = option_to_list (request_by known.sources s.1 (new_target known s))
+
+-- the mark of a reference on this symbol
+abbrev pub mark_by : List SymbolSource → Symbol → ℕ → Mark
+mark_by sources x t = record { symbol = t; bits = reference_flags x (is_shared_by sources t) }
+
+-- the mark that it makes
+abbrev pub marks_by : Known → ℕ × Symbol → List Mark
+marks_by known s = option_to_list (option_map (mark_by known.sources s.1) (new_target known s))
+
+-- its id, with what it stands for
+abbrev pub targets_by : Known → ℕ × Symbol → List (ℕ × ℕ)
+targets_by known s = option_to_list (option_map (λ t. (s.0, t)) (new_target known s))
+
+-- a reference that was found, with what it stands for
+abbrev pub found_target : FoundReference → ℕ × ℕ
+found_target r = (r.reference, r.target)
+
+-- its mark
+abbrev pub found_mark : FoundReference → Mark
+found_mark r = record { symbol = r.target; bits = r.flags.0 }
+
+-- what is found in these symbols: what they request, what they stand for, and their marks
+pub record IsFoundIn (known : Known) (symbols : List (ℕ × Symbol)) (found : FoundItem) : Type 0 where
+  pub requests : found.requests.items ≡ flat_map (requests_by known) symbols
+  pub targets : map found_target found.references.items ≡ flat_map (targets_by known) symbols
+  pub marks : map found_mark found.references.items ≡ flat_map (marks_by known) symbols

@@ -1,0 +1,4 @@
+pub mod Items
+pub mod Asked
+pub mod Planned
+pub mod Work

@@ -1,0 +1,47 @@
+//! The plan of a link.
+
+ghost use Rattle.std.specs.Prelude.{◌≡◌, filter, length, map};
+ghost use Rattle.std.specs.List.{range_with_len};
+ghost use Rattle.link_claim.specs.Workload.{FitsU32};
+ghost use Rattle.link_closure.specs.Closure.{is_marked};
+ghost use Rattle.link_closure.specs.Workload.{IsSound};
+ghost use Rattle.link_pool.specs.Marks.{mark_of_pair};
+ghost use Rattle.link_db.specs.Database.{symbol_names};
+ghost use Rattle.link_db.specs.Seen.{seen};
+ghost use Rattle.link_work.specs.Asked.{known_by};
+ghost use Rattle.link_work.specs.Planned.{planned};
+
+use crate::items::WorkItem;
+use link_db::SymbolDb;
+use link_flags::ValueFlags;
+use link_ids::SymbolId;
+use link_input::Platform;
+use link_loading::SymbolSource;
+use link_symbols::ObjectSymbols;
+
+/// The work of a link over its database, as threads share it: items of the objects' tables, what is loaded whatever refers to it, and the
+/// flags with which symbols begin. What an item asks for is looked up as it is read.
+#[derive(Drop)]
+pub struct LinkPlan<'a, P: Platform> {
+    pub(crate) db: &'a SymbolDb<P>,
+    /// What the references of earlier batches stand for.
+    pub(crate) settled: &'a [Option<SymbolId>],
+    pub(crate) sources: Vec<SymbolSource>,
+    pub(crate) objects: Vec<ObjectSymbols<'a, P>>,
+    pub(crate) items: Vec<WorkItem>,
+    /// The number of the first item of each object.
+    pub(crate) firsts: Vec<usize>,
+    /// A mark for each object that is loaded whatever refers to it, and the places of these.
+    pub(crate) is_root: Vec<bool>,
+    pub(crate) roots: Vec<usize>,
+    pub(crate) root_marks: Vec<(SymbolId, ValueFlags)>,
+    /// The bits of the flags with which each symbol begins.
+    pub(crate) opening: Vec<u32>,
+    ghost begun: { length opening.items ≡ length (symbol_names (seen db.now)) },
+    ghost rooted: { roots.items ≡ filter (is_marked is_root.items) (range_with_len 0 (length is_root.items)) },
+    ghost each: { length is_root.items ≡ length objects.items },
+    ghost is_sound: { IsSound (planned (known_by P.WEAK_SYMBOLS_OVERRIDE_COMMON (seen db.now) sources.items settled.now) objects.items items.items roots.items
+        (map mark_of_pair root_marks.items) opening.items) },
+    ghost does_fit: { FitsU32 (planned (known_by P.WEAK_SYMBOLS_OVERRIDE_COMMON (seen db.now) sources.items settled.now) objects.items items.items roots.items
+        (map mark_of_pair root_marks.items) opening.items) },
+}
