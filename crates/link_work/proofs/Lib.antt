@@ -3,3 +3,7 @@ pub mod Same
 pub mod Sound
 pub mod Rooted
 pub mod Told
+pub mod AnswerWritten
+pub mod AnswerLink
+pub mod AnswerFlags
+pub mod Reading

@@ -40,7 +40,7 @@ item-below f (o ∷ os) it within = elim (contains_append it (parts_of f (length
 ]
 
 -- what an option gives
-pub given : {X : Type 0} (o : Option X) (x : X) → Contains (option_to_list o) x → o ≡ Some x
+given : {X : Type 0} (o : Option X) (x : X) → Contains (option_to_list o) x → o ≡ Some x
 given None x within = absurd (nothing_in x within)
 given (Some y) x within = elim (here_or_there y [] x within) [
   | inl is ↦ ap (λ z. Some z) is

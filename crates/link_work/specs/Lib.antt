@@ -1,4 +1,5 @@
 pub mod Items
 pub mod Asked
 pub mod Planned
+pub mod Answer
 pub mod Work

@@ -2,13 +2,20 @@
 //! that asks for; and what follows once all that is asked for was read.
 #![tactic(auto)]
 
+mod answer;
 mod found;
 mod items;
+mod loading;
 mod opening;
 mod plan;
 mod planning;
 mod roots;
 
+pub use answer::{
+    claimed_objects, closed_words_are_those_of_a_link, read_targets,
+    read_targets_are_those_of_a_link, write_flags,
+};
 pub use found::{FoundItem, FoundReference};
 pub use items::{ITEM_SIZE, WorkItem, work_items};
+pub use loading::{LoadedObjects, load_objects};
 pub use plan::LinkPlan;

@@ -9,6 +9,7 @@ ghost use Rattle.link_pool.specs.Marks.{mark_of_pair};
 ghost use Rattle.link_db.specs.Database.{symbol_names};
 ghost use Rattle.link_db.specs.Seen.{seen};
 ghost use Rattle.link_work.specs.Asked.{known_by};
+ghost use Rattle.link_work.specs.Items.{all_items};
 ghost use Rattle.link_work.specs.Planned.{planned};
 
 use crate::items::WorkItem;
@@ -37,6 +38,7 @@ pub struct LinkPlan<'a, P: Platform> {
     pub(crate) root_marks: Vec<(SymbolId, ValueFlags)>,
     /// The bits of the flags with which each symbol begins.
     pub(crate) opening: Vec<u32>,
+    ghost cut: { items.items ≡ all_items 0 objects.items },
     ghost begun: { length opening.items ≡ length (symbol_names (seen db.now)) },
     ghost rooted: { roots.items ≡ filter (is_marked is_root.items) (range_with_len 0 (length is_root.items)) },
     ghost each: { length is_root.items ≡ length objects.items },

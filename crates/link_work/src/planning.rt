@@ -11,7 +11,8 @@ ghost use Rattle.link_stage.specs.AtStage.{IsAtStage};
 ghost use Rattle.link_db.specs.Database.{symbol_names};
 ghost use Rattle.link_db.specs.Seen.{seen};
 ghost use Rattle.link_work.specs.Planned.{opening_of};
-ghost use Rattle.link_work.specs.Work.{work_of};
+ghost use Rattle.link_work.specs.Answer.{AreObjectsOf, IsKnownAt};
+ghost use Rattle.link_work.specs.Work.{known_of, work_of};
 
 use crate::found::{FoundItem, read_symbols};
 use crate::items::{first_items, item_count, item_symbols, work_items};
@@ -40,6 +41,11 @@ impl<'a, P: Platform> LinkPlan<'a, P> {
         flags: &PerSymbolFlags,
     ) -> Result<Self, AllocError>
         requires { length loaded.now ≤ length (objects_in (seen db.now).mapping.files.groups) }
+        ensures known { IfOk result (λ plan. (demangle : Bytes → Bytes) (w : Stage) → IsAtStage (platform_of P.Platform) demangle (seen db.now) w
+            → w.earlier.targets ≡ settled.now → IsKnownAt w (known_of plan)) }
+        ensures objects { IfOk result (λ plan. (demangle : Bytes → Bytes) (w : Stage) → IsAtStage (platform_of P.Platform) demangle (seen db.now) w
+            → AreObjectsOf w plan.objects.items) }
+        ensures symbols { IfOk result (λ plan. length plan.opening.items ≡ length (symbol_names (seen db.now))) }
         ensures work { IfOk result (λ plan. (demangle : Bytes → Bytes) (w : Stage) → IsAtStage (platform_of P.Platform) demangle (seen db.now) w
             → w.earlier.loaded ≡ loaded.now → w.earlier.targets ≡ settled.now
             → work_of plan ≡ record (workload_of w) { opening = opening_of (length (symbol_names (seen db.now))) (numbers_of (words_of flags.now)) }) }

@@ -72,6 +72,7 @@ invariant_of-result g c =
     let made = map_from (λ t. mark_on t flag.has_non_ir_ref) _ m (subst (λ (ms : List Mark). Contains ms m) c.in_ok-root_marks.ensures.marks within) in
     subst (λ (k : Mark). k.bits < 2 ^ 32) made.2 (omega arith) in
     record {
+      cut = items;
       begun = begun;
       rooted = rooted;
       each = each;
@@ -81,9 +82,21 @@ invariant_of-result g c =
           (plan-fits known objects roots root_marks opening (omega (arith, begun, c.num_symbols.ensures.value, c.num_symbols.ensures.fits)) opens root_fits);
     }
 
--- it is the work of each stage
+-- it is the work of each stage, by what is known there
 pub returns : goal.returns
 returns g c = record {
+  known = λ demangle w at settled. record {
+    sources = c.in_ok-sources.ensures ∙ (ap (λ (h : HeldFiles g.row.P.Denot). sources_of (symbols_in h.groups)) c.files.ensures ∙ ap sources_of (sym at.symbols));
+    settled = sym settled;
+    target = λ x. stands-for (platform_of g.P.Platform) demangle (seen c.args.db.now) w at x;
+  };
+  objects = λ demangle w at. record {
+    count = c.in_ok-objects.ensures.each ∙ (ap (λ (h : HeldFiles g.row.P.Denot). length (objects_in h.groups)) c.files-2.ensures ∙ ap (λ (os : List ObjectFile). length os) (sym at.objects));
+    symbols = λ f o is.
+        c.in_ok-objects.ensures.symbols f o is ∙ (ap (λ (h : HeldFiles g.row.P.Denot). symbols_of_object f (symbols_in h.groups)) c.files-2.ensures ∙ ap (symbols_of_object f) (sym at.symbols));
+  };
+  symbols =
+      ap (λ (l : List ℕ). length l) c.in_ok-opening.ensures.bits ∙ (length-map-range_with_len (slice_index (numbers_of (words_of c.args.flags.now))) 0 c.num_symbols.result ∙ c.num_symbols.ensures.value);
   work = λ demangle w at loaded settled.
       let db = seen c.args.db.now in
       let groups = db.mapping.files.groups in

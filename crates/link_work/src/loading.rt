@@ -1,0 +1,83 @@
+//! The objects that a link loads, read by threads.
+
+ghost use Rattle.std.specs.Prelude.{◌≡◌, ◌<◌, ◌≤◌, IfOk, length};
+ghost use Rattle.link_claim.specs.Later.{HasReadAll};
+ghost use Rattle.link_claim.specs.Seats.{IsSettled, claimed_in};
+ghost use Rattle.link_files.specs.Inputs.{objects_in};
+ghost use Rattle.link_flags.specs.FlagWords.{numbers_of, words_of};
+ghost use Rattle.link_loader.specs.Holds.{platform_of};
+ghost use Rattle.link_rules.specs.Loading.{IsLoaded};
+ghost use Rattle.link_rules.specs.Orderly.{IsOrderly};
+ghost use Rattle.link_rules.specs.Places.{Bytes, each_from};
+ghost use Rattle.link_rules.specs.Selection.{loaded_target};
+ghost use Rattle.link_rules.specs.Work.{workload_of};
+ghost use Rattle.link_rules.specs.World.{Stage};
+ghost use Rattle.link_stage.specs.AtStage.{IsAtStage};
+ghost use Rattle.link_symbols.specs.Lookups.{AreBelow};
+ghost use Rattle.link_db.specs.Database.{symbol_names};
+ghost use Rattle.link_db.specs.Seen.{seen};
+ghost use Rattle.link_work.specs.Planned.{opening_of};
+
+use crate::answer::{claimed_objects, read_targets};
+use crate::plan::LinkPlan;
+use link_claim::{Closed, Gate, Plan, Words};
+use link_db::SymbolDb;
+use link_flags::PerSymbolFlags;
+use link_ids::SymbolId;
+use link_input::Platform;
+use link_pool::{AllRead, read_all};
+use std::alloc::{AllocError, Global};
+use std::thread::Threads;
+
+/// What threads leave once they have read all that a batch asks for.
+#[derive(Drop)]
+pub struct LoadedObjects {
+    /// The words that they shared: which objects they claimed, and the flags of each symbol.
+    pub closed: Closed,
+    /// A mark for each loaded object, by its place among all objects.
+    pub loaded: Vec<bool>,
+    /// What the references of loaded objects stand for, by the ids of the symbols.
+    pub targets: Vec<Option<SymbolId>>,
+}
+
+/// Loads the objects that the last batch of a database asks for, where earlier batches had these loaded, and had settled what these references
+/// stand for. So many workers read them, each item between two calls of the gate. The only refusal is want of memory.
+pub fn load_objects<R: Threads + Sync, G: Gate + Sync, P: Platform + Sync>(
+    rt: &R,
+    alloc: Global,
+    gate: &G,
+    workers: usize,
+    db: &SymbolDb<P>,
+    loaded: &[bool],
+    settled: &[Option<SymbolId>],
+    flags: &PerSymbolFlags,
+) -> Result<LoadedObjects, AllocError>
+    requires some { 0 < workers }
+    requires most { workers ≤ 256 }
+    requires loaded { length loaded.now ≤ length (objects_in (seen db.now).mapping.files.groups) }
+    requires settled { AreBelow (length (symbol_names (seen db.now))) settled.now }
+    ensures work { IfOk result (λ r. (demangle : Bytes → Bytes) (w : Stage) → IsAtStage (platform_of P.Platform) demangle (seen db.now) w
+        → w.earlier.loaded ≡ loaded.now → w.earlier.targets ≡ settled.now
+        → r.closed.view.work ≡ record (workload_of w) { opening = opening_of (length (symbol_names (seen db.now))) (numbers_of (words_of flags.now)) }) }
+    ensures read { IfOk result (λ r. HasReadAll r.closed.view) }
+    ensures closed { IfOk result (λ r. IsSettled r.closed) }
+    ensures symbols { IfOk result (λ r. length r.closed.view.work.opening ≡ length (symbol_names (seen db.now))) }
+    ensures claimed { IfOk result (λ r. r.loaded.items ≡ claimed_in r.closed) }
+    ensures loaded { IfOk result (λ r. (demangle : Bytes → Bytes) (w : Stage) → IsAtStage (platform_of P.Platform) demangle (seen db.now) w
+        → w.earlier.loaded ≡ loaded.now → w.earlier.targets ≡ settled.now → IsOrderly w → IsLoaded w r.loaded.items) }
+    ensures targets { IfOk result (λ r. (demangle : Bytes → Bytes) (w : Stage) → IsAtStage (platform_of P.Platform) demangle (seen db.now) w
+        → w.earlier.loaded ≡ loaded.now → w.earlier.targets ≡ settled.now → IsOrderly w → r.targets.items ≡ each_from (loaded_target w r.loaded.items) 0 w.symbols) }
+    ensures below { IfOk result (λ r. AreBelow (length (symbol_names (seen db.now))) r.targets.items) }
+{
+    let plan = LinkPlan::new(alloc, db, loaded, settled, flags)?;
+    let (words, seat) = Words::create(alloc, &plan)?;
+    let all = read_all(rt, alloc, gate, workers, &plan, words, seat)?;
+    let AllRead { closed, found } = all;
+    let loaded = claimed_objects(alloc, &closed, plan.files())?;
+    let targets = read_targets(alloc, plan.symbols(), settled, &found)?;
+    Ok(LoadedObjects {
+        closed,
+        loaded,
+        targets,
+    })
+}
