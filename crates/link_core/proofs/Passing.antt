@@ -1,8 +1,9 @@
 -- How far a link has come after each of its calls.
-use Rattle.std.proofs.Common.{◌≡◌, ◌∙◌, ◌+◌, ◌*◌, ◌<◌, ◌^◌, ◌++◌, ℕ, List, Bool, Option, None, Some, Result, Ok, Err, inl, inr, sym, ap, subst, length, map}
+use Rattle.std.proofs.Common.{◌≡◌, ◌∙◌, ◌+◌, ◌*◌, ◌<◌, ◌^◌, ◌++◌, ℕ, List, [], ◌∷◌, Bool, Option, None, Some, Result, Ok, Err, inl, inr, refl, sym, ap, subst, length, map}
 use Rattle.std.specs.Prelude.{IfErr, IfOk}
 use Rattle.std.specs.Result.{IsErrAnd}
 use Rattle.link_input.specs.declared.options.Options.{Options}
+use Rattle.link_input.specs.InputFiles.{Batch}
 use Rattle.link_flags.specs.declared.value_flags.RawFlags.{RawFlags}
 use Rattle.link_discarding.specs.Indexed.{AreGroupsOf}
 use Rattle.link_files.specs.GroupFiles.{symbols_in}
@@ -19,7 +20,9 @@ use Rattle.link_rules.specs.Rules.{PlatformRules}
 use Rattle.link_rules.specs.Selection.{selection_of}
 use Rattle.link_rules.specs.Undefined.{boundary_makers, final_table, left_undefined, resolved}
 use Rattle.link_rules.specs.Visibility.{narrowed_symbol}
-use Rattle.link_rules.specs.World.{World, first_stage}
+use Rattle.link_rules.specs.Work.{ComesTo, IsStageOf}
+use Rattle.link_rules.specs.World.{World, first_stage, start_of}
+use Rattle.link_rules.proofs.Stages.{orderly-stage}
 use Rattle.link_loader.specs.Causes.{TellsCause}
 use Rattle.link_loader.specs.Holds.{AreRulesOf}
 use Rattle.link_loader.specs.ReadTexts.{ReadTexts}
@@ -118,11 +121,20 @@ pub refused-by : (A : Type 0) (w : World) (cause : Option LinkError) (e : LinkEr
 refused-by A w cause e refuses (inl memory) = inr memory
 refused-by A w cause e refuses (inr is) = inl (refuses is)
 
+-- a link comes to its first stage
+first-reached : (w : World) → IsStageOf w (first_stage w)
+first-reached w = by w.later
+  where
+    by : (later : List Batch) → ComesTo (start_of w) w.first later (first_stage w)
+    by [] = refl
+    by (c ∷ cs) = inl refl
+
 -- before anything is known, the first stage is the next one
 pub next-stage : {P : Type 0} (platform : PlatformRules) (demangle : Bytes → Bytes) (w : World) (db : Database P) (read : List ℕ) (known : Known)
     → known ≡ nothing_known → IsOpened platform demangle w db read → IsNextStage platform demangle db known (first_stage w)
 next-stage platform demangle w db read known new opened = record {
   stage = opened.stage;
+  orderly = orderly-stage w (first_stage w) (first-reached w);
   loaded = sym (ap (λ (k : Known). k.marks) new);
   targets = sym (ap (λ (k : Known). k.targets) new);
 }

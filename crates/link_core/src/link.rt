@@ -30,7 +30,7 @@ use std::alloc::Global;
 use std::thread::Threads;
 
 /// Links the files of a database.
-fn link_files<R: Threads + Sync, G: Gate + Sync, P: Platform, D: Demangler>(
+fn link_files<R: Threads + Sync, G: Gate + Sync, P: Platform + Sync, D: Demangler>(
     rt: &R,
     alloc: Global,
     gate: &G,

@@ -21,7 +21,7 @@ use std::alloc::Global;
 use std::thread::Threads;
 
 /// Loads the objects that count.
-pub(crate) fn load_objects<R: Threads + Sync, G: Gate + Sync, P: Platform>(
+pub(crate) fn load_objects<R: Threads + Sync, G: Gate + Sync, P: Platform + Sync>(
     rt: &R,
     alloc: Global,
     gate: &G,

@@ -1,7 +1,6 @@
 -- What is known once the objects of a batch are loaded.
-use Rattle.std.proofs.Common.{◌≡◌, ◌∙◌, ◌++◌, ◌≤◌, ℕ, Bool, List, [], ◌∷◌, Option, Some, None, ap, append-nil, arith, length, map, refl, subst, sym, if◌then◌else◌}
+use Rattle.std.proofs.Common.{◌≡◌, ◌∙◌, ◌++◌, ◌≤◌, ℕ, Bool, List, [], ◌∷◌, Option, Some, None, Result, Ok, Err, IfOk, ap, append-nil, arith, length, map, refl, subst, sym, if◌then◌else◌}
 use Rattle.std.proofs.lemmas.List.{length-map}
-use Rattle.std.specs.Prelude.{option_to_list}
 use Rattle.link_comdat.specs.Selected.{selected}
 use Rattle.link_discarding.proofs.Same.{same-strengths}
 use Rattle.link_discarding.specs.Discarded.{discarded_in}
@@ -9,16 +8,10 @@ use Rattle.link_discarding.specs.Indexed.{AreGroupsOf, IndexedGroups, index_at, 
 use Rattle.link_discarding.specs.Regular.{regular_among}
 use Rattle.link_flags.specs.declared.strength.SymbolStrength.{SymbolStrength}
 use Rattle.link_input.specs.ObjectFile.{ObjectFile}
-use Rattle.link_input.specs.Symbols.{Symbol, is_shared}
-use Rattle.link_marking.proofs.References.{flags-marked, kept-all}
-use Rattle.link_marking.specs.Marks.{marks_by, marks_on_names, with_marks}
-use Rattle.link_marking.specs.Targets.{targets_of_loaded}
-use Rattle.link_loading.specs.Targets.{all_targets}
+use Rattle.link_input.specs.Symbols.{Symbol}
 use Rattle.link_rules.proofs.WorldOnce.{one-loaded}
 use Rattle.link_rules.specs.Comdat.{discarded_groups}
-use Rattle.link_rules.specs.Loading.{IsLoaded, entry_name, redirect_targets}
-use Rattle.link_rules.specs.Marking.{flags_before, marked_flags}
-use Rattle.link_rules.specs.Names.{Mapping, first_definition}
+use Rattle.link_rules.specs.Loading.{IsLoaded}
 use Rattle.link_rules.specs.Places.{Bytes, each_from, is_empty}
 use Rattle.link_rules.specs.Selection.{Selection, loaded_target, selection_of, surviving_origin, surviving_strengths}
 use Rattle.link_rules.specs.World.{Stage}
@@ -35,14 +28,6 @@ use Rattle.link_symbols.specs.Lookups.{IsSelectionOf}
 use Rattle.link_db.specs.Database.{Database, symbol_names}
 use Rattle.link_resolve.specs.Known.{IsSelection, Known}
 use Rattle.link_resolve.specs.Resolving.{IsNextStage, Resolving, known_of}
-
--- what is kept of the targets of all references
-pub targets-are : (w : Stage) (all given : List (Option ℕ)) (loaded marks : List Bool) (symbols : List Symbol) (kept : List (Option ℕ))
-    → kept ≡ targets_of_loaded given marks symbols → given ≡ all → marks ≡ loaded → symbols ≡ w.symbols → all ≡ all_targets w → kept ≡ each_from (loaded_target w loaded) 0 w.symbols
-targets-are w all given loaded marks symbols kept is given_is marks_is symbols_are all_are =
-    is ∙ (ap (λ (ts : List (Option ℕ)). targets_of_loaded ts marks symbols) (given_is ∙ all_are)
-    ∙ (ap (λ (ms : List Bool). targets_of_loaded (all_targets w) ms symbols) marks_is
-    ∙ (ap (λ (xs : List Symbol). targets_of_loaded (all_targets w) loaded xs) symbols_are ∙ kept-all w loaded)))
 
 -- all of this
 abbrev known_with : List Bool → List (Option ℕ) → List SymbolStrength → Known
@@ -74,21 +59,6 @@ pub strengths-are : (w : Stage) (loaded given : List Bool) (symbols : List Symbo
 strengths-are w loaded given symbols g strengths are given_is symbols_are is =
     is ∙ (ap (λ (ms : List Bool). map (λ (x : Symbol). surviving_origin ms (discarded_in g) x.origin) symbols) given_is
     ∙ (ap (λ (xs : List Symbol). map (λ (x : Symbol). surviving_origin loaded (discarded_in g) x.origin) xs) symbols_are ∙ same-strengths w loaded g are))
-
--- the flags that were before, with the marks of names and then of references
-pub flags-are : (l : Selection) (dynamic : List Bool) (targets : List (Option ℕ)) (symbols : List Symbol) (mapping : Mapping) (names : List Bytes) (before named after : List ℕ)
-    → dynamic ≡ map (λ x. is_shared x.origin) l.stage.symbols → targets ≡ l.targets → symbols ≡ l.stage.symbols → mapping ≡ first_definition l.stage
-    → names ≡ option_to_list (entry_name l.stage) ++ redirect_targets l.stage → before ≡ each_from (flags_before l.stage) 0 l.stage.symbols
-    → named ≡ with_marks (marks_on_names mapping names) before → after ≡ with_marks (marks_by dynamic targets symbols) named → after ≡ marked_flags l
-flags-are l dynamic targets symbols mapping names before named after dynamic_is targets_are symbols_are mapping_is names_are before_is named_is is =
-    let own : named ≡ with_marks (marks_on_names (first_definition l.stage) (option_to_list (entry_name l.stage) ++ redirect_targets l.stage)) (each_from (flags_before l.stage) 0 l.stage.symbols) =
-    named_is ∙ (ap (λ (m : Mapping). with_marks (marks_on_names m names) before) mapping_is
-    ∙ (ap (λ (ns : List Bytes). with_marks (marks_on_names (first_definition l.stage) ns) before) names_are
-    ∙ ap (λ (fs : List ℕ). with_marks (marks_on_names (first_definition l.stage) (option_to_list (entry_name l.stage) ++ redirect_targets l.stage)) fs) before_is)) in
-    is ∙ (ap (λ (ds : List Bool). with_marks (marks_by ds targets symbols) named) dynamic_is
-    ∙ (ap (λ (ts : List (Option ℕ)). with_marks (marks_by (map (λ (x : Symbol). is_shared x.origin) l.stage.symbols) ts symbols) named) targets_are
-    ∙ (ap (λ (xs : List Symbol). with_marks (marks_by (map (λ (x : Symbol). is_shared x.origin) l.stage.symbols) l.targets xs) named) symbols_are
-    ∙ (ap (λ (fs : List ℕ). with_marks (marks_by (map (λ (x : Symbol). is_shared x.origin) l.stage.symbols) l.targets l.stage.symbols) fs) own ∙ flags-marked l))))
 
 -- without symbols of the linker the symbols are those of the files
 pub all-named : {P : Type 0} (db : Database P) → db.mapping.files.added ≡ [] → length (symbol_names db) ≡ length (symbols_in db.mapping.files.groups)
@@ -136,3 +106,8 @@ is-selection {P} platform demangle old new w marks known mapping options rules a
 -- a stage before which a resolver knew something, by what its parts know
 pub opened : {P : Type 0} {platform : PlatformRules} {demangle : Bytes → Bytes} {db : Database P} {w : Stage} {parts now : Resolving} → parts ≡ now → IsNextStage platform demangle db now.known w → IsNextStage platform demangle db parts.known w
 opened {platform = platform} {demangle = demangle} {db = db} {w = w} same at = subst (λ (r : Resolving). IsNextStage platform demangle db r.known w) (sym same) at
+
+-- what follows of what a call gives
+pub ok-into : {A E : Type 0} (r : Result A E) (P Q : A → Type 0) → ((x : A) → P x → Q x) → IfOk r P → IfOk r Q
+ok-into (Ok x) P Q into held = into x held
+ok-into (Err e) P Q into held = tt

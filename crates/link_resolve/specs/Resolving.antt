@@ -1,5 +1,7 @@
 -- A batch of a link is resolved: which of its objects are loaded, and what follows for each symbol.
 use Rattle.std.specs.Prelude.{◌≡◌, ◌∷◌, [], List, Bool, Option}
+use Rattle.link_claim.specs.Seats.{Ending}
+use Rattle.link_rules.specs.Orderly.{IsOrderly}
 use Rattle.link_rules.specs.Places.{Bytes}
 use Rattle.link_rules.specs.Refusals.{empty_refusal, first_cause, group_refusal}
 use Rattle.link_rules.specs.Rules.{PlatformRules}
@@ -11,18 +13,20 @@ use Rattle.link_db.specs.Database.{Database}
 use Rattle.link_resolve.specs.Known.{Known}
 use Rattle.link_stage.specs.AtStage.{IsAtStage}
 
--- what a resolver knows: of the symbols, and the groups of the loaded regular objects
+-- what a resolver knows: of the symbols, the groups of the loaded regular objects, and the words that threads shared as they read the last batch
 pub record Resolving : Type 0 where
   pub known : Known
   pub groups : IndexedGroups
+  pub closed : Option Ending
 
 -- nothing is loaded
 abbrev pub nothing_known : Known
 nothing_known = record { marks = []; targets = []; strengths = [] }
 
--- a stage of the database, before whose last batch this was known
+-- a stage of the database, before whose last batch this was known; it is orderly, as each stage is that a link comes to
 pub record IsNextStage {P : Type 0} (platform : PlatformRules) (demangle : Bytes → Bytes) (db : Database P) (known : Known) (w : Stage) : Type 0 where
   pub stage : IsAtStage platform demangle db w
+  pub orderly : IsOrderly w
   pub loaded : w.earlier.loaded ≡ known.marks
   pub targets : w.earlier.targets ≡ known.targets
 

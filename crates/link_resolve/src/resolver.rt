@@ -1,6 +1,6 @@
 //! The resolver: which objects of a link are loaded, and what follows for each symbol.
 
-ghost use Rattle.std.specs.Prelude.{◌≡◌, ◌≤◌, ◌<◌, All, Bool, IfOk, List, OnErr, OnOk, length};
+ghost use Rattle.std.specs.Prelude.{◌≡◌, ◌≤◌, ◌<◌, All, Bool, IfOk, IfSome, IsTrue, List, OnErr, OnOk, is_some, length, option_map};
 ghost use Rattle.link_discarding.specs.Indexed.{AreGroupsOf};
 ghost use Rattle.link_files.specs.GroupFiles.{symbols_in};
 ghost use Rattle.link_files.specs.Inputs.{objects_in};
@@ -8,7 +8,11 @@ ghost use Rattle.link_flags.specs.FlagWords.{numbers_of, words_of};
 ghost use Rattle.link_loader.specs.Causes.{TellsCause};
 ghost use Rattle.link_loader.specs.Holds.{platform_of};
 ghost use Rattle.link_rules.specs.Loading.{IsLoaded};
+ghost use Rattle.link_claim.specs.Later.{HasReadAll};
+ghost use Rattle.link_claim.specs.Seats.{IsSettled};
 ghost use Rattle.link_rules.specs.Marking.{flags_before, marked_flags};
+ghost use Rattle.link_rules.specs.Work.{workload_of};
+ghost use Rattle.link_work.specs.Planned.{opening_of};
 ghost use Rattle.link_rules.specs.Places.{Bytes, each_from};
 ghost use Rattle.link_rules.specs.Refusals.{group_refusal};
 ghost use Rattle.link_rules.specs.Rivals.{reference_table};
@@ -22,16 +26,15 @@ ghost use Rattle.link_resolve.specs.Resolving.{IsNextStage, known_of, loading_ca
 
 use crate::definitions::{Definitions, names_are_mapped_to_symbols};
 use crate::resolved::Resolved;
-use link_claim::Gate;
+use link_claim::{Closed, Gate};
 use link_db::SymbolDb;
 use link_discarding::LoadedGroups;
 use link_flags::PerSymbolFlags;
 use link_ids::SymbolId;
 use link_input::Platform;
-use link_loading::{loaded_objects, reference_targets, referred_names};
-use link_marking::{dynamic_symbols, loaded_targets, mark_names, mark_targets};
 use link_rules::LinkError;
 use link_symbols::{reference_table, surviving_strengths};
+use link_work::{LoadedObjects, load_objects, write_flags};
 use std::alloc::{AllocError, Global};
 use std::marker::Model;
 use std::thread::Threads;
@@ -42,34 +45,56 @@ use std::thread::Threads;
 pub struct Resolver {
     pub(crate) resolved: Resolved,
     pub(crate) groups: LoadedGroups,
+    pub(crate) closed: Option<Closed>,
 }
 
 /// The loaded objects, and what the references of these stand for, by what was known before the batch.
-fn loaded_with_targets<P: Platform>(
+fn loaded_with_targets<R: Threads + Sync, G: Gate + Sync, P: Platform + Sync>(
+    rt: &R,
     alloc: Global,
+    gate: &G,
+    workers: usize,
     db: &SymbolDb<P>,
     earlier: &Resolved,
-) -> Result<(Vec<bool>, Vec<Option<SymbolId>>), AllocError>
+    flags: &PerSymbolFlags,
+) -> Result<LoadedObjects, AllocError>
     requires loaded { length earlier.now.marks ≤ length (objects_in (seen db.now).mapping.files.groups) }
     requires targets { AreBelow (length (symbol_names (seen db.now))) earlier.now.targets }
     ensures loaded { IfOk result (λ found. (demangle : Bytes → Bytes) (w : Stage) → IsNextStage (platform_of P.Platform) demangle (seen db.now) earlier.now w
-        → IsLoaded w found.0.items) }
+        → IsLoaded w found.loaded.items) }
     ensures targets { IfOk result (λ found. (demangle : Bytes → Bytes) (w : Stage) → IsNextStage (platform_of P.Platform) demangle (seen db.now) earlier.now w
-        → found.1.items ≡ each_from (loaded_target w found.0.items) 0 w.symbols) }
-    ensures below { IfOk result (λ found. AreBelow (length (symbol_names (seen db.now))) found.1.items) }
+        → found.targets.items ≡ each_from (loaded_target w found.loaded.items) 0 w.symbols) }
+    ensures below { IfOk result (λ found. AreBelow (length (symbol_names (seen db.now))) found.targets.items) }
+    ensures work { IfOk result (λ found. (demangle : Bytes → Bytes) (w : Stage) → IsNextStage (platform_of P.Platform) demangle (seen db.now) earlier.now w
+        → found.closed.view.work ≡ record (workload_of w) { opening = opening_of (length (symbol_names (seen db.now))) (numbers_of (words_of flags.now)) }) }
+    ensures read { IfOk result (λ found. HasReadAll found.closed.view) }
+    ensures closed { IfOk result (λ found. IsSettled found.closed) }
+    ensures symbols { IfOk result (λ found. length found.closed.view.work.opening ≡ length (symbol_names (seen db.now))) }
 {
-    let all = reference_targets(alloc, db, earlier.targets())?;
-    let loaded = loaded_objects(alloc, db, earlier.loaded(), &all)?;
-    let targets = loaded_targets(alloc, db.files(), &loaded, &all)?;
-    Ok((loaded, targets))
+    // Any number that is asked for: 256 workers at most, and one at least.
+    let workers = workers.max(1).min(256);
+    load_objects(
+        rt,
+        alloc,
+        gate,
+        workers,
+        db,
+        earlier.loaded(),
+        earlier.targets(),
+        flags,
+    )
 }
 
 /// What is known once the objects of a batch are loaded, and the groups of those.
-fn resolve_objects<P: Platform>(
+fn resolve_objects<R: Threads + Sync, G: Gate + Sync, P: Platform + Sync>(
+    rt: &R,
     alloc: Global,
+    gate: &G,
+    workers: usize,
     db: &SymbolDb<P>,
     earlier: &Resolved,
-) -> Result<(Resolved, LoadedGroups), LinkError>
+    flags: &PerSymbolFlags,
+) -> Result<(Resolved, LoadedGroups, Closed), LinkError>
     requires loaded { length earlier.now.marks ≤ length (objects_in (seen db.now).mapping.files.groups) }
     requires targets { AreBelow (length (symbol_names (seen db.now))) earlier.now.targets }
     ensures cause { (demangle : Bytes → Bytes) (w : Stage) → IsNextStage (platform_of P.Platform) demangle (seen db.now) earlier.now w
@@ -80,11 +105,21 @@ fn resolve_objects<P: Platform>(
         → (marks : List Bool) → IsLoaded w marks → AreGroupsOf marks w.objects found.1) }
     ensures below { IfOk result (λ found. AreBelow (length (symbol_names (seen db.now))) found.0.targets) }
     ensures strengths { IfOk result (λ found. length found.0.strengths ≡ length (symbols_in (seen db.now).mapping.files.groups)) }
+    ensures work { IfOk result (λ found. (demangle : Bytes → Bytes) (w : Stage) → IsNextStage (platform_of P.Platform) demangle (seen db.now) earlier.now w
+        → found.2.view.work ≡ record (workload_of w) { opening = opening_of (length (symbol_names (seen db.now))) (numbers_of (words_of flags.now)) }) }
+    ensures read { IfOk result (λ found. HasReadAll found.2.view) }
+    ensures closed { IfOk result (λ found. IsSettled found.2) }
+    ensures symbols { IfOk result (λ found. length found.2.view.work.opening ≡ length (symbol_names (seen db.now))) }
 {
-    let (loaded, targets) = loaded_with_targets(alloc, db, earlier)?;
+    let found = loaded_with_targets(rt, alloc, gate, workers, db, earlier, flags)?;
+    let LoadedObjects {
+        closed,
+        loaded,
+        targets,
+    } = found;
     let groups = LoadedGroups::select(alloc, db.groups(), &loaded)?;
     let strengths = surviving_strengths(alloc, db.files(), &loaded, &groups)?;
-    Ok((Resolved::new(loaded, targets, strengths), groups))
+    Ok((Resolved::new(loaded, targets, strengths), groups, closed))
 }
 
 /// What each symbol points to before rivals are settled.
@@ -105,32 +140,12 @@ fn first_table<P: Platform>(
     Ok(table)
 }
 
-/// Joins the flags of symbols with what the entry, the redirects and the references of loaded objects give to what they stand for.
-/// After a refusal, which is want of memory, the flags are as before.
-fn mark_symbols<P: Platform>(
-    alloc: Global,
-    db: &SymbolDb<P>,
-    resolved: &Resolved,
-    flags: &mut PerSymbolFlags,
-) -> Result<(), AllocError>
-    ensures flags { OnOk result ((demangle : Bytes → Bytes) (l : Selection) → IsSelection (platform_of P.Platform) demangle (seen db.now) resolved.now l
-        → numbers_of (words_of flags.old) ≡ each_from (flags_before l.stage) 0 l.stage.symbols → numbers_of (words_of flags.new) ≡ marked_flags l) }
-    ensures words { length (words_of flags.new) ≡ length (words_of flags.old) }
-    ensures err { OnErr result (words_of flags.new ≡ words_of flags.old) }
-{
-    let dynamic = dynamic_symbols(alloc, db.files())?;
-    let names = referred_names(alloc, db)?;
-    mark_names(&Definitions { db }, &names, flags);
-    mark_targets(db.files(), &dynamic, resolved.targets(), flags);
-    Ok(())
-}
-
 impl Model for Resolver {
     ghost use Rattle.link_resolve.specs.Resolving.{Resolving};
 
     ghost Value = { Resolving };
 
-    ghost view = { λ r. record { known = r.resolved; groups = r.groups } };
+    ghost view = { λ r. record { known = r.resolved; groups = r.groups; closed = r.closed } };
 }
 
 impl Resolver {
@@ -141,6 +156,7 @@ impl Resolver {
         Resolver {
             resolved: Resolved::new(Vec::new(alloc), Vec::new(alloc), Vec::new(alloc)),
             groups: LoadedGroups::none(alloc),
+            closed: None,
         }
     }
 
@@ -158,25 +174,32 @@ impl Resolver {
         &self.groups
     }
 
+    /// The words that threads shared as they read the last batch; none before the first.
+    pub fn closed(&self) -> Option<&Closed>
+        ensures { option_map (λ words. words.now) result ≡ self.now.closed }
+    {
+        self.closed.as_ref()
+    }
+
     /// Loads the objects of a batch that count: the least set that has those that earlier batches had loaded, those that aren't optional and
     /// those of the root names, and with each object all that its references ask for. Each symbol points to what it stands for before rivals
     /// are settled, and the flags of what is referred to are joined with what references give. Mirrors Wild's call of this name.
     ///
-    /// The gate is called round the reading of each work item, and as many workers read at most; today one thread reads all, in one item.
-    /// What earlier batches left stands for symbols and objects of the database, which has grown since.
+    /// So many workers read the work items of these objects, 256 at most, each item between two calls of the gate; which names and flags they
+    /// find there is told by the words that they share. What earlier batches left stands for symbols and objects of the database, which has grown since.
     ///
     /// It is refused with `NoInputs` where there is no object, with `SectionInTwoGroups` for the first loaded regular object that lists a
     /// section as a member twice, and with `Memory`. Then resolver, database and flags are as before.
     pub fn resolve_symbols_and_select_archive_entries<
         R: Threads + Sync,
         G: Gate + Sync,
-        P: Platform,
+        P: Platform + Sync,
     >(
         &mut self,
-        _rt: &R,
+        rt: &R,
         alloc: Global,
-        _gate: &G,
-        _workers: usize,
+        gate: &G,
+        workers: usize,
         db: &mut SymbolDb<P>,
         flags: &mut PerSymbolFlags,
     ) -> Result<(), LinkError>
@@ -194,6 +217,10 @@ impl Resolver {
         ensures flags { OnOk result ((demangle : Bytes → Bytes) (w : Stage) → IsNextStage (platform_of P.Platform) demangle (seen db.old) self.old.known w
             → (marks : List Bool) → IsLoaded w marks → numbers_of (words_of flags.old) ≡ each_from (flags_before w) 0 w.symbols
             → numbers_of (words_of flags.new) ≡ marked_flags (selection_of w marks)) }
+        ensures work { OnOk result ((demangle : Bytes → Bytes) (w : Stage) → IsNextStage (platform_of P.Platform) demangle (seen db.old) self.old.known w
+            → numbers_of (words_of flags.old) ≡ each_from (flags_before w) 0 w.symbols → IfSome self.new.closed (λ words. words.view.work ≡ workload_of w)) }
+        ensures shared { OnOk result (IsTrue (is_some self.new.closed)) }
+        ensures read { OnOk result (IfSome self.new.closed (λ words. HasReadAll words.view × IsSettled words)) }
         ensures rest { OnOk result (seen db.new ≡ record (seen db.old) { table = (seen db.new).table }) }
         ensures whole { OnOk result (HasTable (seen db.new)) }
         ensures targets { OnOk result (AreBelow (length (symbol_names (seen db.new))) self.new.known.targets) }
@@ -206,12 +233,21 @@ impl Resolver {
         if db.num_regular_objects() == 0 {
             return Err(LinkError::NoInputs);
         }
-        let (resolved, groups) = resolve_objects(alloc, db, &self.resolved)?;
+        let (resolved, groups, closed) = resolve_objects(
+            rt,
+            alloc,
+            gate,
+            workers,
+            db,
+            &self.resolved,
+            flags,
+        )?;
         let table = first_table(alloc, db, &resolved)?;
-        mark_symbols(alloc, db, &resolved, flags)?;
+        write_flags(&closed, db.num_symbols(), flags);
         db.restore_definitions(table);
         self.resolved = resolved;
         self.groups = groups;
+        self.closed = Some(closed);
         Ok(())
     }
 }

@@ -18,7 +18,7 @@ use Rattle.link_resolve.proofs.resolver.resolve_objects.Goals as goal
 pub returns-in_err-groups-clause-cause : goal.returns-in_err-groups-clause-cause
 returns-in_err-groups-clause-cause g c = λ demangle w is marks loaded.
     let objects = is.stage.objects ∙ ap (λ (gs : List (Group g.row.P.Denot)). objects_in gs) (sym c.groups.ensures) in
-    let same : c.deref.result.now ≡ marks = c.deref.ensures.value ∙ one-loaded w _ marks (c.in_ok-loaded.ensures.loaded demangle w is) loaded in
+    let same : c.deref.result.now ≡ marks = c.deref.ensures.value ∙ one-loaded w _ marks (c.in_ok-found.ensures.loaded demangle w is) loaded in
     let e = c.in_err-groups.field-0.0 in
     let told : TellsCause {A = Unit {0}} (group_refusal (selection_of w marks)) (Err e) =
     subst (λ (ms : List Bool). TellsCause {A = Unit {0}} (first_of (filter_map group_cause (loaded_regular w ms))) (Err e)) same (c.in_err-groups.ensures.cause w objects) in
@@ -28,21 +28,21 @@ returns-in_err-groups-clause-cause g c = λ demangle w is marks loaded.
 pub returns-clause-cause : goal.returns-clause-cause
 returns-clause-cause g c = λ demangle w is marks loaded.
     let objects = is.stage.objects ∙ ap (λ (gs : List (Group g.row.P.Denot)). objects_in gs) (sym c.groups.ensures) in
-    let same : c.deref.result.now ≡ marks = c.deref.ensures.value ∙ one-loaded w _ marks (c.in_ok-loaded.ensures.loaded demangle w is) loaded in
+    let same : c.deref.result.now ≡ marks = c.deref.ensures.value ∙ one-loaded w _ marks (c.in_ok-found.ensures.loaded demangle w is) loaded in
     subst (λ (ms : List Bool). first_of (filter_map group_cause (loaded_regular w ms)) ≡ None) same (c.in_ok-groups.ensures.cause w objects)
 
 pub returns-clause-known : goal.returns-clause-known
 returns-clause-known g c = λ demangle w is marks loaded.
-    let own = c.in_ok-loaded.ensures.loaded demangle w is in
+    let own = c.in_ok-found.ensures.loaded demangle w is in
     let objects = ap (λ (gs : List (Group g.row.P.Denot)). objects_in gs) c.groups.ensures ∙ sym is.stage.objects in
     let symbols = ap (λ (h : HeldFiles g.row.P.Denot). symbols_in h.groups) c.files.ensures ∙ sym is.stage.symbols in
-    let are = groups-are w c.in_ok-loaded.loaded.items c.in_ok-loaded.loaded.items c.deref.result.now (objects_in c.groups.result.now) c.in_ok-groups.groups own own c.deref.ensures.value objects
+    let are = groups-are w c.in_ok-found.found.loaded.items c.in_ok-found.found.loaded.items c.deref.result.now (objects_in c.groups.result.now) c.in_ok-groups.groups own own c.deref.ensures.value objects
     c.in_ok-groups.ensures.groups c.in_ok-groups.ensures.indices in
-    let strengths = strengths-are w c.in_ok-loaded.loaded.items c.deref-2.result.now (symbols_in c.files.result.now.groups) c.in_ok-groups.groups c.in_ok-strengths.strengths.items are c.deref-2.ensures.value symbols c.in_ok-strengths.ensures in
-    c.new.ensures ∙ known-is w marks c.in_ok-loaded.loaded.items c.in_ok-loaded.targets.items c.in_ok-strengths.strengths.items own loaded (c.in_ok-loaded.ensures.targets demangle w is) strengths
+    let strengths = strengths-are w c.in_ok-found.found.loaded.items c.deref-2.result.now (symbols_in c.files.result.now.groups) c.in_ok-groups.groups c.in_ok-strengths.strengths.items are c.deref-2.ensures.value symbols c.in_ok-strengths.ensures in
+    c.new.ensures ∙ known-is w marks c.in_ok-found.found.loaded.items c.in_ok-found.found.targets.items c.in_ok-strengths.strengths.items own loaded (c.in_ok-found.ensures.targets demangle w is) strengths
 
 pub returns-clause-groups : goal.returns-clause-groups
 returns-clause-groups g c = λ demangle w is marks loaded.
     let objects = ap (λ (gs : List (Group g.row.P.Denot)). objects_in gs) c.groups.ensures ∙ sym is.stage.objects in
-    groups-are w marks c.in_ok-loaded.loaded.items c.deref.result.now (objects_in c.groups.result.now) c.in_ok-groups.groups (c.in_ok-loaded.ensures.loaded demangle w is) loaded c.deref.ensures.value objects
+    groups-are w marks c.in_ok-found.found.loaded.items c.deref.result.now (objects_in c.groups.result.now) c.in_ok-groups.groups (c.in_ok-found.ensures.loaded demangle w is) loaded c.deref.ensures.value objects
     c.in_ok-groups.ensures.groups c.in_ok-groups.ensures.indices
