@@ -1,12 +1,9 @@
 -- The object of each symbol of groups is one of their objects.
-use Rattle.std.proofs.Common.{◌≡◌, ℕ, zero, suc, ◌+◌, ◌<◌, ◌≤◌, ◌∙◌, ◌++◌, List, [], ◌∷◌, Bool, true, false, cond, map, length, get_or, Option, Some, None, IfSome, refl, sym, ap, subst, arith}
+use Rattle.std.proofs.Common.{◌≡◌, ℕ, zero, suc, ◌+◌, ◌<◌, ◌≤◌, ◌∙◌, ◌++◌, List, [], ◌∷◌, Bool, true, false, cond, map, length, Option, Some, None, IfSome, refl, sym, ap, subst, arith}
 use Rattle.std.specs.Prelude.{◌&&◌, ◌||◌, option_map, slice_get}
 use Rattle.std.specs.List.{AllByRecursion, cons_option, filter_map, flat_map}
 use Rattle.std.specs.Option.{option_and_then}
-use Rattle.std.proofs.lemmas.List.Elements.{Contains-get_or}
 use Rattle.std.proofs.lemmas.Option.{slice_get-map}
-use Rattle.link_closure.specs.declared.Edge.{Edge}
-use Rattle.link_closure.specs.Graph.{AreInRange}
 use Rattle.link_input.specs.InputFiles.{InputFile, prelude, object, linker_script, stub_library, synthetic, object_count}
 use Rattle.link_input.specs.ObjectFile.{ObjectFile}
 use Rattle.link_input.specs.SequencedFiles.{SequencedFile}
@@ -17,11 +14,12 @@ use Rattle.link_files.specs.GroupFiles.{symbols_in}
 use Rattle.link_files.specs.Inputs.{object_of, objects_in}
 use Rattle.link_rules.specs.Places.{same_number}
 use Rattle.link_rules.specs.Undefined.{is_weak_symbol}
-use Rattle.link_loading.specs.Requests.{edge_by, edges_by, request_by, requested}
+use Rattle.link_loading.specs.Requests.{request_by, requested}
 use Rattle.link_loading.specs.Sources.{source_of, sources_of}
-use Rattle.link_symbols.specs.Lookups.{target_at}
-use Rattle.link_loading.proofs.Listed.{same-some, some-from}
-use Rattle.link_loading.proofs.Edges.{edge-ends}
+
+-- what is there is the same
+same-some : {X : Type 0} {x y : X} → Some x ≡ Some y → x ≡ y
+same-some e = cc
 
 -- where a symbol stands in an object, the place of that is below a count
 abbrev pub IsBelow : ℕ → Symbol → Type 0
@@ -101,15 +99,3 @@ pub request-below : {P : Type 0} (groups : List (Group P)) (x : Symbol) (target 
 request-below groups x target g is =
     let to = target-object (symbols_in groups) x target g (asked-object (is_weak_symbol x) _ g is) in
     object-below groups to.0 to.1 g to.2 to.3
-
--- both ends of each listed edge are objects
-pub edges-below : {P : Type 0} (groups : List (Group P)) (targets : List (Option ℕ)) → AreInRange (length (objects_in groups)) (edges_by (sources_of (symbols_in groups)) targets (symbols_in groups))
-edges-below groups targets = λ k d lt.
-    let symbols = symbols_in groups in
-    let edges : List Edge = edges_by (sources_of symbols) targets symbols in
-    let e : Edge = get_or edges k d in
-    let known = some-from (λ s x. edge_by (sources_of symbols) x (target_at targets s)) e 0 symbols (Contains-get_or edges k d lt) in
-    let target = target_at targets (0 + known.0) in
-    let ends = edge-ends (object_in known.1.origin) (request_by (sources_of symbols) known.1 target) e known.3 in
-    let to = target-object symbols known.1 target e.to (asked-object (is_weak_symbol known.1) _ e.to ends.1) in
-    (object-below groups known.0 known.1 e.from known.2 ends.0, object-below groups to.0 to.1 e.to to.2 to.3)

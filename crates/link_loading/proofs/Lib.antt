@@ -1,5 +1,5 @@
 pub mod Listed
-pub mod Edges
+pub mod Asking
 pub mod Below
 pub mod GroupObjects
 pub mod Naming

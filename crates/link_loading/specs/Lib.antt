@@ -1,5 +1,4 @@
 pub mod Sources
-pub mod Targets
 pub mod Requests
 pub mod Objects
 pub mod Names

@@ -1,7 +1,6 @@
 //! Which objects of a link are loaded: what each reference stands for, what is loaded whatever refers to it, and what that asks for.
 #![tactic(auto)]
 
-mod loading;
 mod names;
 mod objects;
 mod requests;
@@ -9,10 +8,9 @@ mod roots;
 mod sources;
 mod targets;
 
-pub use loading::{loaded_objects, request_edges};
 pub use names::{referred_names, root_names};
 pub use objects::objects_of;
 pub use requests::request_by;
 pub use roots::root_objects;
 pub use sources::{SymbolSource, symbol_sources};
-pub use targets::{looked_up, reference_targets};
+pub use targets::looked_up;

@@ -3,14 +3,10 @@
 #![tactic(auto)]
 
 mod columns;
-mod laws;
 mod marks;
-mod targets;
 
 pub use columns::{
     dynamic_symbols, held_symbols, listed_symbols, object_places, version_listed_symbols,
     visibilities,
 };
-pub use laws::{kept_targets_are_those_of_a_link, marks_make_the_flags};
-pub use marks::{mark_names, mark_symbol, mark_targets, reference_flags};
-pub use targets::loaded_targets;
+pub use marks::{mark_symbol, reference_flags};
