@@ -18,15 +18,9 @@ use Rattle.link_pool.specs.Found.{IsFound, AreFound, missing, IsNotDue, Visits, 
 use Rattle.link_pool.specs.declared.worker.Finding.{Finding}
 use Rattle.link_pool.specs.Jobs.{AllFound}
 use Rattle.link_pool.specs.Results.{AreResultsOf}
-use Rattle.link_pool.proofs.Items.{get_contains}
+use Rattle.link_pool.proofs.Items.{get_at, get_contains}
 
 module _ {X : Type 0} where
-  -- something stands at each index below the length
-  pub get_at : (xs : List X) (i : ℕ) → i < length xs → (x : X) × (slice_get xs i ≡ Some x)
-  get_at [] i h = absurd (omega arith)
-  get_at (x ∷ xs) zero h = (x, refl)
-  get_at (x ∷ xs) (suc i) h = get_at xs i (omega arith)
-
   -- an index at which something stands is below the length
   pub get_below : (xs : List X) (i : ℕ) (x : X) → slice_get xs i ≡ Some x → i < length xs
   get_below [] i x e = absurd (cc)

@@ -1,5 +1,5 @@
 -- Requests and marks of an item, by their index.
-use Rattle.std.proofs.Common.{◌≡◌, ℕ, zero, suc, ◌<◌, List, [], ◌∷◌, Contains, Some, sym, refl, ap, ◌∙◌, subst, arith, length, get_or, inl, inr}
+use Rattle.std.proofs.Common.{◌≡◌, ℕ, zero, suc, ◌<◌, List, [], ◌∷◌, Contains, None, Some, sym, refl, ap, ◌∙◌, subst, arith, length, get_or, inl, inr}
 use Rattle.std.specs.Prelude.{slice_get}
 use Rattle.link_closure.specs.declared.workload.Mark.{Mark}
 use Rattle.link_closure.specs.declared.workload.Item.{Item}
@@ -10,13 +10,13 @@ use Rattle.link_claim.specs.Views.{MayRequest, MayMark, MayBegin}
 use Rattle.link_claim.specs.Later.{IsLater, HasRead}
 use Rattle.link_closure.proofs.Joins.{contains_later}
 
--- there is an item of each number
-pub item_at : (its : List Item) (i : ℕ) → i < length its → (it : Item) × (slice_get its i ≡ Some it)
-item_at [] i h = absurd (omega arith)
-item_at (x ∷ xs) zero h = (x, refl)
-item_at (x ∷ xs) (suc i) h = item_at xs i (omega arith)
-
 module _ {X : Type 0} where
+  -- something stands at each index below the length
+  pub get_at : (xs : List X) (i : ℕ) → i < length xs → (x : X) × (slice_get xs i ≡ Some x)
+  get_at [] i h = absurd (omega arith)
+  get_at (x ∷ xs) zero h = (x, refl)
+  get_at (x ∷ xs) (suc i) h = get_at xs i (omega arith)
+
   -- what stands at an index is in the list
   pub get_contains : (xs : List X) (k : ℕ) (x : X) → slice_get xs k ≡ Some x → Contains xs x
   get_contains [] k x e = absurd (cc)
@@ -37,16 +37,24 @@ module _ (w : Workload) (v : View) (i k : ℕ) (same : v.work ≡ w) (begun : Co
   -- a request at an index may be made
   pub may_request : (f : ℕ) → ((it : Item) → HasItem w i it → Some f ≡ slice_get it.requests k) → MayRequest v f
   may_request f is =
-      let at = item_at w.items i lt in
+      let at = get_at w.items i lt in
       inr (i, begun, subst (λ (z : Workload). Requests z i f) (sym same) (at.0, at.1, get_contains at.0.requests k f (sym (is at.0 at.1))))
 
   -- a mark at an index is one of the item's
   pub marks_at : (m : Mark) → ((it : Item) → HasItem w i it → Some m ≡ slice_get it.marks k) → Marks w i m
-  marks_at m is = let at = item_at w.items i lt in (at.0, at.1, get_contains at.0.marks k m (sym (is at.0 at.1)))
+  marks_at m is = let at = get_at w.items i lt in (at.0, at.1, get_contains at.0.marks k m (sym (is at.0 at.1)))
 
   -- and may be made
   pub may_mark : (m : Mark) → ((it : Item) → HasItem w i it → Some m ≡ slice_get it.marks k) → MayMark v m
   may_mark m is = inr (i, begun, subst (λ (z : Workload). Marks z i m) (sym same) (marks_at m is))
+
+-- at an index below the number of requests one stands
+pub request_there : (w : Workload) (i k : ℕ) → i < length w.items → ((it : Item) → HasItem w i it → k < length it.requests) → ¬ ((it : Item) → HasItem w i it → None ≡ slice_get it.requests k)
+request_there w i k lt below none =
+    let at = get_at w.items i lt in
+    let there = get_at at.0.requests k (below at.0 at.1) in
+    let e = none at.0 at.1 ∙ there.1 in
+    absurd (cc)
 
 -- a root at an index may be asked for
 pub may_request_root : (w : Workload) (v : View) (k f : ℕ) → v.work ≡ w → Some f ≡ slice_get w.roots k → MayRequest v f
@@ -71,11 +79,11 @@ has_read w v u z i same a b begun requests marks =
 -- an item may be begun once its file is known
 pub may_begin : (w : Workload) (v : View) (i file : ℕ) → v.work ≡ w → i < length w.items → ((it : Item) → HasItem w i it → file ≡ it.file) → Contains v.known file → MayBegin v i
 may_begin w v i file same lt is known =
-    let at = item_at w.items i lt in
+    let at = get_at w.items i lt in
     (at.0, subst (λ (z : Workload). HasItem z i at.0) (sym same) at.1, subst (Contains v.known) (is at.0 at.1) known)
 
 -- its file is one of the files
 pub file_below : (w : Workload) (v : View) (i file : ℕ) → IsSound w → v.work ≡ w → i < length w.items → ((it : Item) → HasItem w i it → file ≡ it.file) → file < v.work.files
 file_below w v i file sound same lt is =
-    let at = item_at w.items i lt in
+    let at = get_at w.items i lt in
     subst (λ (z : Workload). file < z.files) (sym same) (subst (λ f. f < w.files) (sym (is at.0 at.1)) (sound.items i at.0 at.1))

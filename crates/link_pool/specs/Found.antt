@@ -1,5 +1,5 @@
 -- What was found in items.
-use Rattle.std.specs.Prelude.{◌≡◌, ℕ, ◌+◌, ◌<◌, Bool, true, false, ◌⊎◌, List, [], ◌∷◌, length, Contains, Option, None, Some, slice_get}
+use Rattle.std.specs.Prelude.{◌≡◌, ℕ, ◌+◌, ◌<◌, Bool, true, false, ◌⊎◌, List, [], ◌∷◌, ◌++◌, reverse, length, Contains, Option, None, Some, slice_get}
 use Rattle.link_closure.specs.declared.workload.Item.{Item}
 use Rattle.link_claim.specs.declared.view.View.{View}
 use Rattle.link_closure.specs.Workload.{HasItem}
@@ -14,6 +14,10 @@ IsBegun w v i = (i < length w.items) × Contains v.known_items i × MayBegin v i
 -- the item is of a known file and was read, and this is what is found in it
 abbrev pub IsFound : {T : Type 0} → (ℕ → T → Type 0) → View → ℕ → T → Type 0
 IsFound found v i x = ((it : Item) × HasItem v.work i it × Contains v.known it.file) × HasRead v i × found i x
+
+-- the seat claimed these files since, in this order: its list has the latest first
+abbrev pub AreClaimed : List ℕ → View → View → Type 0
+AreClaimed files v later = later.claims ≡ reverse files ++ v.claims
 
 -- each result that is there was found so
 abbrev pub AreFound : {T : Type 0} → (ℕ → T → Type 0) → View → List (Option T) → Type 0

@@ -14,11 +14,6 @@ pub(crate) struct Hint {
     pub(crate) item: usize,
 }
 
-/// It hears of each file that was claimed.
-pub(crate) trait Listener {
-    fn hear<P: Readable>(&mut self, plan: &P, file: usize);
-}
-
 /// One worker's own hints, and the stealers of the others.
 #[derive(Drop)]
 pub(crate) struct Hints {
@@ -45,16 +40,18 @@ impl Hints {
     fn push(&mut self, hint: Hint) {
         let _ = self.local.push(hint);
     }
-}
 
-impl Listener for Hints {
-    fn hear<P: Readable>(&mut self, plan: &P, file: usize) {
-        let (first, count) = plan.items_of(file);
-        for k in 0..count.min(plan.items()) {
-            self.push(Hint {
-                file,
-                item: first.wrapping_add(k),
-            });
+    /// Adds a hint for each item of these files, which were claimed.
+    /// Which hints there are then is left open: the sweep reads what no hint told.
+    pub(crate) fn add_items<P: Readable>(&mut self, plan: &P, files: &[usize]) {
+        for file in files {
+            let (first, count) = plan.items_of(*file);
+            for k in 0..count.min(plan.items()) {
+                self.push(Hint {
+                    file: *file,
+                    item: first.wrapping_add(k),
+                });
+            }
         }
     }
 }
@@ -91,7 +88,7 @@ fn others_of(
     Ok(others)
 }
 
-/// It deals out the items of what it hears, worker by worker.
+/// It deals out the items of files, worker by worker.
 #[derive(Drop)]
 pub(crate) struct Dealer {
     all: Vec<Hints>,
@@ -112,6 +109,18 @@ impl Dealer {
         self.all
     }
 
+    /// Deals out a hint for each item of the file, which was claimed.
+    /// Who gets which hint is left open: the sweep reads what no hint told.
+    pub(crate) fn deal_items<P: Readable>(&mut self, plan: &P, file: usize) {
+        let (first, count) = plan.items_of(file);
+        for k in 0..count.min(plan.items()) {
+            self.deal(Hint {
+                file,
+                item: first.wrapping_add(k),
+            });
+        }
+    }
+
     // Gives the hint to the next worker.
     fn deal(&mut self, hint: Hint) {
         if self.next >= self.all.len() {
@@ -120,18 +129,6 @@ impl Dealer {
         if self.next < self.all.len() {
             self.all[self.next].push(hint);
             self.next += 1;
-        }
-    }
-}
-
-impl Listener for Dealer {
-    fn hear<P: Readable>(&mut self, plan: &P, file: usize) {
-        let (first, count) = plan.items_of(file);
-        for k in 0..count.min(plan.items()) {
-            self.deal(Hint {
-                file,
-                item: first.wrapping_add(k),
-            });
         }
     }
 }

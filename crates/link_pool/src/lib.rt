@@ -15,3 +15,4 @@ mod worker;
 
 pub use pool::{AllRead, read_all};
 pub use readable::Readable;
+pub use reading::{ItemRead, read_item};

@@ -3,16 +3,16 @@ ghost use Rattle.std.specs.Prelude.{◌≡◌, ℕ, ◌<◌, length, slice_get, 
 ghost use Rattle.link_closure.specs.declared.workload.Mark.{Mark};
 ghost use Rattle.link_claim.specs.Later.{IsLater};
 
-use crate::hints::Listener;
+use crate::hints::Dealer;
 use crate::readable::Readable;
 use link_claim::{AtomicPerSymbolFlags, Words, WorkSeat};
 
 /// Asks for the root at this index.
-fn request_root<P: Readable, L: Listener>(
+fn request_root<P: Readable>(
     words: &Words<P>,
     seat: &mut WorkSeat,
     plan: &P,
-    listener: &mut L,
+    dealer: &mut Dealer,
     index: usize,
 )
     requires table { seat.old.table ≡ words.now }
@@ -25,7 +25,7 @@ fn request_root<P: Readable, L: Listener>(
         return;
     };
     if seat.request(words, file) {
-        listener.hear(plan, file);
+        dealer.deal_items(plan, file);
     }
 }
 
@@ -46,11 +46,11 @@ fn mark_root<P: Readable>(words: &Words<P>, seat: &mut WorkSeat, plan: &P, index
 }
 
 /// Asks for all roots.
-pub(crate) fn request_roots<P: Readable, L: Listener>(
+pub(crate) fn request_roots<P: Readable>(
     words: &Words<P>,
     seat: &mut WorkSeat,
     plan: &P,
-    listener: &mut L,
+    dealer: &mut Dealer,
 )
     requires table { seat.old.table ≡ words.now }
     requires work { seat.old.view.work ≡ P.work plan.now }
@@ -59,7 +59,7 @@ pub(crate) fn request_roots<P: Readable, L: Listener>(
     ensures known { (f : ℕ) → Contains (P.work plan.now).roots f → Contains seat.new.view.known f }
 {
     for index in 0..plan.root_count() {
-        request_root(words, seat, plan, listener, index);
+        request_root(words, seat, plan, dealer, index);
     }
 }
 

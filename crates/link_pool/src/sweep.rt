@@ -5,25 +5,11 @@ ghost use Rattle.link_claim.specs.Later.{IsLater, HasRead};
 ghost use Rattle.link_claim.specs.Views.{MayBegin};
 ghost use Rattle.link_pool.specs.Found.{AreFound, AreNotDue, missing, Visits, Sweeps};
 
-use crate::hints::Listener;
 use crate::items_by_file::ItemsByFile;
 use crate::readable::Readable;
-use crate::reading::read_begun;
+use crate::reading::{ItemRead, read_item};
 use link_claim::{Gate, Words, WorkSeat};
 use std::alloc::{AllocError, Global};
-
-/// The files that the sweep claimed, whose items are yet to be visited.
-#[derive(Drop)]
-struct ClaimedFiles {
-    files: Vec<usize>,
-}
-
-impl Listener for ClaimedFiles {
-    // A push that is refused drops the file: the next pass comes to its items.
-    fn hear<P: Readable>(&mut self, _plan: &P, file: usize) {
-        let _ = self.files.push(file);
-    }
-}
 
 /// Calls the gate, if this thread began the item.
 fn before<G: Gate>(gate: &G, began: bool, item: usize) {
@@ -39,14 +25,14 @@ fn after<G: Gate>(gate: &G, began: bool, item: usize) {
     }
 }
 
-/// Begins the item, and reads it even if another did.
+/// Begins the item, and reads it even if another did. The files that it claims go to those whose items are yet to be visited.
 fn read_anyway<P: Readable, G: Gate>(
     alloc: Global,
     words: &Words<P>,
     seat: &mut WorkSeat,
     plan: &P,
     gate: &G,
-    claimed: &mut ClaimedFiles,
+    claimed: &mut Vec<usize>,
     item: usize,
 ) -> Result<P::Found, AllocError>
     requires table { seat.old.table ≡ words.now }
@@ -60,9 +46,15 @@ fn read_anyway<P: Readable, G: Gate>(
 {
     let began = seat.begin(words, item);
     before(gate, began, item);
-    let found = read_begun(alloc, words, seat, plan, claimed, item);
+    let read = read_item(alloc, plan, words, seat, item);
     after(gate, began, item);
-    found
+    let ItemRead {
+        claimed: mut files,
+        found,
+        ..
+    } = read?;
+    claimed.append(&mut files)?;
+    Ok(found)
 }
 
 /// Whether the result of the item is missing.
@@ -85,7 +77,7 @@ fn visit<P: Readable, G: Gate>(
     seat: &mut WorkSeat,
     plan: &P,
     gate: &G,
-    claimed: &mut ClaimedFiles,
+    claimed: &mut Vec<usize>,
     results: &mut [Option<P::Found>],
     item: usize,
 ) -> Result<bool, AllocError>
@@ -116,7 +108,7 @@ fn pass<P: Readable, G: Gate>(
     seat: &mut WorkSeat,
     plan: &P,
     gate: &G,
-    claimed: &mut ClaimedFiles,
+    claimed: &mut Vec<usize>,
     results: &mut [Option<P::Found>],
 ) -> Result<bool, AllocError>
     requires table { seat.old.table ≡ words.now }
@@ -143,7 +135,7 @@ fn visit_file<P: Readable, G: Gate>(
     seat: &mut WorkSeat,
     plan: &P,
     gate: &G,
-    claimed: &mut ClaimedFiles,
+    claimed: &mut Vec<usize>,
     results: &mut [Option<P::Found>],
     items: &ItemsByFile,
     file: usize,
@@ -176,7 +168,7 @@ fn visit_claimed<P: Readable, G: Gate>(
     seat: &mut WorkSeat,
     plan: &P,
     gate: &G,
-    claimed: &mut ClaimedFiles,
+    claimed: &mut Vec<usize>,
     results: &mut [Option<P::Found>],
 ) -> Result<(), AllocError>
     requires table { seat.old.table ≡ words.now }
@@ -188,12 +180,12 @@ fn visit_claimed<P: Readable, G: Gate>(
     ensures found { OnOk result (AreFound (P.found_in plan.now) seat.new.view results.new) }
     ensures fewer { OnOk result (missing results.new ≤ missing results.old) }
 {
-    if claimed.files.is_empty() {
+    if claimed.is_empty() {
         return Ok(());
     }
     let items = ItemsByFile::of_plan(alloc, plan)?;
     for _ in 0..plan.files() {
-        let Some(file) = claimed.files.pop() else {
+        let Some(file) = claimed.pop() else {
             return Ok(());
         };
         visit_file(
@@ -221,9 +213,7 @@ fn sweep<P: Readable, G: Gate>(
     ensures found { OnOk result (AreFound (P.found_in plan.now) seat.new.view results.new) }
     ensures sweep { IfOk result (λ b. Sweeps b results.old seat.old.view results.new seat.new.view (length (P.work plan.now).items)) }
 {
-    let mut claimed = ClaimedFiles {
-        files: Vec::new(alloc),
-    };
+    let mut claimed = Vec::new(alloc);
     if !pass(alloc, words, seat, plan, gate, &mut claimed, results)? {
         return Ok(false);
     }

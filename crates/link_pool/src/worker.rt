@@ -7,7 +7,7 @@ ghost use Rattle.link_pool.specs.Jobs.{AllFound, AreKept, IsReady, IsBack};
 
 use crate::hints::{Hint, Hints};
 use crate::readable::Readable;
-use crate::reading::read_begun;
+use crate::reading::{ItemRead, read_item};
 use link_claim::{Gate, Words, WorkSeat};
 use std::alloc::{AllocError, Global};
 
@@ -83,12 +83,11 @@ fn follow<P: Readable, G: Gate>(
     }
     let item = hint.item;
     gate.before(item);
-    let found = read_begun(alloc, words, seat, plan, hints, item);
+    let read = read_item(alloc, plan, words, seat, item);
     gate.after(item);
-    Ok(Some(Finding {
-        item,
-        found: found?,
-    }))
+    let ItemRead { claimed, found, .. } = read?;
+    hints.add_items(plan, &claimed);
+    Ok(Some(Finding { item, found }))
 }
 
 /// Follows a hint, and writes down what it found.

@@ -9,6 +9,7 @@ ghost use Rattle.link_loader.specs.Causes.{TellsCause};
 ghost use Rattle.link_loader.specs.Holds.{platform_of};
 ghost use Rattle.link_rules.specs.Loading.{IsLoaded};
 ghost use Rattle.link_claim.specs.Later.{HasReadAll};
+ghost use Rattle.link_work.specs.Requests.{requests_of};
 ghost use Rattle.link_claim.specs.Seats.{IsSettled};
 ghost use Rattle.link_rules.specs.Marking.{flags_before, marked_flags};
 ghost use Rattle.link_rules.specs.Work.{workload_of};
@@ -70,6 +71,7 @@ fn loaded_with_targets<R: Threads + Sync, G: Gate + Sync, P: Platform + Sync>(
     ensures read { IfOk result (λ found. HasReadAll found.closed.view) }
     ensures closed { IfOk result (λ found. IsSettled found.closed) }
     ensures symbols { IfOk result (λ found. length found.closed.view.work.opening ≡ length (symbol_names (seen db.now))) }
+    ensures requests { IfOk result (λ found. found.requests ≡ requests_of found.closed.view.work found.loaded.items) }
 {
     // Any number that is asked for: 256 workers at most, and one at least.
     let workers = workers.max(1).min(256);
@@ -85,7 +87,7 @@ fn loaded_with_targets<R: Threads + Sync, G: Gate + Sync, P: Platform + Sync>(
     )
 }
 
-/// What is known once the objects of a batch are loaded, and the groups of those.
+/// What is known once the objects of a batch are loaded, the groups of those, the words that threads shared, and how many requests were made.
 fn resolve_objects<R: Threads + Sync, G: Gate + Sync, P: Platform + Sync>(
     rt: &R,
     alloc: Global,
@@ -94,7 +96,7 @@ fn resolve_objects<R: Threads + Sync, G: Gate + Sync, P: Platform + Sync>(
     db: &SymbolDb<P>,
     earlier: &Resolved,
     flags: &PerSymbolFlags,
-) -> Result<(Resolved, LoadedGroups, Closed), LinkError>
+) -> Result<(Resolved, LoadedGroups, Closed, u64), LinkError>
     requires loaded { length earlier.now.marks ≤ length (objects_in (seen db.now).mapping.files.groups) }
     requires targets { AreBelow (length (symbol_names (seen db.now))) earlier.now.targets }
     ensures cause { (demangle : Bytes → Bytes) (w : Stage) → IsNextStage (platform_of P.Platform) demangle (seen db.now) earlier.now w
@@ -110,16 +112,19 @@ fn resolve_objects<R: Threads + Sync, G: Gate + Sync, P: Platform + Sync>(
     ensures read { IfOk result (λ found. HasReadAll found.2.view) }
     ensures closed { IfOk result (λ found. IsSettled found.2) }
     ensures symbols { IfOk result (λ found. length found.2.view.work.opening ≡ length (symbol_names (seen db.now))) }
+    ensures requests { IfOk result (λ found. found.3 ≡ requests_of found.2.view.work found.0.marks) }
 {
     let found = loaded_with_targets(rt, alloc, gate, workers, db, earlier, flags)?;
     let LoadedObjects {
         closed,
         loaded,
         targets,
+        requests,
     } = found;
     let groups = LoadedGroups::select(alloc, db.groups(), &loaded)?;
     let strengths = surviving_strengths(alloc, db.files(), &loaded, &groups)?;
-    Ok((Resolved::new(loaded, targets, strengths), groups, closed))
+    let resolved = Resolved::new(loaded, targets, strengths);
+    Ok((resolved, groups, closed, requests))
 }
 
 /// What each symbol points to before rivals are settled.
@@ -181,6 +186,68 @@ impl Resolver {
         self.closed.as_ref()
     }
 
+    /// `resolve_symbols_and_select_archive_entries`, which also answers how many requests the references of loaded objects make: one for each
+    /// time that one of them asks for an object, and none for what is loaded whatever refers to it. It is a number of the batch, whatever the
+    /// threads did.
+    pub fn resolve_counted<R: Threads + Sync, G: Gate + Sync, P: Platform + Sync>(
+        &mut self,
+        rt: &R,
+        alloc: Global,
+        gate: &G,
+        workers: usize,
+        db: &mut SymbolDb<P>,
+        flags: &mut PerSymbolFlags,
+    ) -> Result<u64, LinkError>
+        requires listed { IsListed (seen db.old) }
+        requires loaded { length self.old.known.marks ≤ length (objects_in (seen db.old).mapping.files.groups) }
+        requires targets { AreBelow (length (symbol_names (seen db.old))) self.old.known.targets }
+        ensures cause { (demangle : Bytes → Bytes) (w : Stage) → IsNextStage (platform_of P.Platform) demangle (seen db.old) self.old.known w
+            → (marks : List Bool) → IsLoaded w marks → TellsCause (loading_cause w marks) result }
+        ensures selection { OnOk result ((demangle : Bytes → Bytes) (w : Stage) → IsNextStage (platform_of P.Platform) demangle (seen db.old) self.old.known w
+            → (marks : List Bool) → IsLoaded w marks → IsSelection (platform_of P.Platform) demangle (seen db.new) self.new.known (selection_of w marks)) }
+        ensures groups { OnOk result ((demangle : Bytes → Bytes) (w : Stage) → IsNextStage (platform_of P.Platform) demangle (seen db.old) self.old.known w
+            → (marks : List Bool) → IsLoaded w marks → AreGroupsOf marks w.objects self.new.groups) }
+        ensures table { OnOk result ((demangle : Bytes → Bytes) (w : Stage) → IsNextStage (platform_of P.Platform) demangle (seen db.old) self.old.known w
+            → (marks : List Bool) → IsLoaded w marks → (seen db.new).table ≡ reference_table (selection_of w marks)) }
+        ensures flags { OnOk result ((demangle : Bytes → Bytes) (w : Stage) → IsNextStage (platform_of P.Platform) demangle (seen db.old) self.old.known w
+            → (marks : List Bool) → IsLoaded w marks → numbers_of (words_of flags.old) ≡ each_from (flags_before w) 0 w.symbols
+            → numbers_of (words_of flags.new) ≡ marked_flags (selection_of w marks)) }
+        ensures work { OnOk result ((demangle : Bytes → Bytes) (w : Stage) → IsNextStage (platform_of P.Platform) demangle (seen db.old) self.old.known w
+            → numbers_of (words_of flags.old) ≡ each_from (flags_before w) 0 w.symbols → IfSome self.new.closed (λ words. words.view.work ≡ workload_of w)) }
+        ensures shared { OnOk result (IsTrue (is_some self.new.closed)) }
+        ensures read { OnOk result (IfSome self.new.closed (λ words. HasReadAll words.view × IsSettled words)) }
+        ensures requests { IfOk result (λ n. (demangle : Bytes → Bytes) (w : Stage) → IsNextStage (platform_of P.Platform) demangle (seen db.old) self.old.known w
+            → (marks : List Bool) → IsLoaded w marks → n ≡ requests_of (workload_of w) marks) }
+        ensures counted { IfOk result (λ n. IfSome self.new.closed (λ words. n ≡ requests_of words.view.work self.new.known.marks)) }
+        ensures rest { OnOk result (seen db.new ≡ record (seen db.old) { table = (seen db.new).table }) }
+        ensures whole { OnOk result (HasTable (seen db.new)) }
+        ensures targets { OnOk result (AreBelow (length (symbol_names (seen db.new))) self.new.known.targets) }
+        ensures strengths { OnOk result (length self.new.known.strengths ≡ length (symbols_in (seen db.new).mapping.files.groups)) }
+        ensures words { length (words_of flags.new) ≡ length (words_of flags.old) }
+        ensures unchanged { OnErr result (self.new ≡ self.old) }
+        ensures db_unchanged { OnErr result (seen db.new ≡ seen db.old) }
+        ensures flags_unchanged { OnErr result (words_of flags.new ≡ words_of flags.old) }
+    {
+        if db.num_regular_objects() == 0 {
+            return Err(LinkError::NoInputs);
+        }
+        let (resolved, groups, closed, requests) = resolve_objects(
+            rt,
+            alloc,
+            gate,
+            workers,
+            db,
+            &self.resolved,
+            flags,
+        )?;
+        let table = first_table(alloc, db, &resolved)?;
+        write_flags(&closed, db.num_symbols(), flags);
+        db.restore_definitions(table);
+        self.resolved = resolved;
+        self.groups = groups;
+        self.closed = Some(closed);
+        Ok(requests)
+    }
     /// Loads the objects of a batch that count: the least set that has those that earlier batches had loaded, those that aren't optional and
     /// those of the root names, and with each object all that its references ask for. Each symbol points to what it stands for before rivals
     /// are settled, and the flags of what is referred to are joined with what references give. Mirrors Wild's call of this name.
@@ -230,24 +297,7 @@ impl Resolver {
         ensures db_unchanged { OnErr result (seen db.new ≡ seen db.old) }
         ensures flags_unchanged { OnErr result (words_of flags.new ≡ words_of flags.old) }
     {
-        if db.num_regular_objects() == 0 {
-            return Err(LinkError::NoInputs);
-        }
-        let (resolved, groups, closed) = resolve_objects(
-            rt,
-            alloc,
-            gate,
-            workers,
-            db,
-            &self.resolved,
-            flags,
-        )?;
-        let table = first_table(alloc, db, &resolved)?;
-        write_flags(&closed, db.num_symbols(), flags);
-        db.restore_definitions(table);
-        self.resolved = resolved;
-        self.groups = groups;
-        self.closed = Some(closed);
+        self.resolve_counted(rt, alloc, gate, workers, db, flags)?;
         Ok(())
     }
 }

@@ -7,3 +7,4 @@ pub mod AnswerWritten
 pub mod AnswerLink
 pub mod AnswerFlags
 pub mod Reading
+pub mod Requests

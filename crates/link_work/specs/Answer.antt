@@ -1,5 +1,5 @@
 -- What follows once the items of a link were read: the flags of symbols, and what references stand for.
-use Rattle.std.specs.Prelude.{◌≡◌, ◌⊎◌, ℕ, ◌<◌, Bool, List, [], ◌∷◌, Contains, MatchBool, Option, Some, None, if◌then◌else◌, length, nat_lt, slice_get, slice_set}
+use Rattle.std.specs.Prelude.{◌≡◌, ◌⊎◌, ℕ, ◌+◌, ◌<◌, Bool, List, [], ◌∷◌, Contains, MatchBool, Option, Some, None, if◌then◌else◌, length, nat_lt, slice_get, slice_set}
 use Rattle.std.specs.List.{flat_map}
 use Rattle.std.specs.Option.{option_map_or}
 use Rattle.link_claim.specs.Seats.{Ending, flags_in}
@@ -37,6 +37,15 @@ references_in found = flat_map references_of found
 -- the reference was found in some item
 abbrev pub IsReferenceIn : List (Option FoundItem) → FoundReference → Type 0
 IsReferenceIn found r = (i : ℕ) × (x : FoundItem) × (slice_get found i ≡ Some (Some x)) × Contains x.references.items r
+
+-- how many requests were found in an item
+abbrev pub request_count : Option FoundItem → ℕ
+request_count found = option_map_or (λ x. length x.requests.items) found 0
+
+-- in all of these items
+abbrev pub requests_found : List (Option FoundItem) → ℕ
+requests_found [] = 0
+requests_found (o ∷ os) = request_count o + requests_found os
 
 -- the targets of symbols after those of references were written, one after another
 abbrev pub with_references : List (Option ℕ) → List FoundReference → List (Option ℕ)

@@ -3,3 +3,4 @@ pub mod Asked
 pub mod Planned
 pub mod Answer
 pub mod Work
+pub mod Requests

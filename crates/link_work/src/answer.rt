@@ -14,7 +14,7 @@ ghost use Rattle.link_rules.specs.Work.{workload_of};
 ghost use Rattle.link_rules.specs.World.{Stage};
 ghost use Rattle.link_symbols.specs.Lookups.{AreBelow, target_at};
 ghost use Rattle.link_symbols.specs.Walk.{SymbolsLeft};
-ghost use Rattle.link_work.specs.Answer.{AreItemsRead, AreObjectsOf, AreTargetsRead, IsKnownAt, IsReferenceIn, closed_flags, references_in, references_of, with_closed_flags, with_references};
+ghost use Rattle.link_work.specs.Answer.{AreItemsRead, AreObjectsOf, AreTargetsRead, IsKnownAt, IsReferenceIn, closed_flags, references_in, references_of, request_count, requests_found, with_closed_flags, with_references};
 ghost use Rattle.link_work.specs.Asked.{Known};
 ghost use Rattle.link_work.specs.Planned.{opening_of};
 
@@ -153,6 +153,27 @@ pub fn read_targets(
     let mut targets = settled_targets(alloc, symbols, settled)?;
     write_all(targets.as_mut_slice(), found);
     Ok(targets)
+}
+
+/// How many requests were found in an item, if it was read.
+fn request_count(found: &Option<FoundItem>) -> u64
+    ensures { result ≡ request_count found.now }
+{
+    match found {
+        Some(item) => item.requests.len() as u64,
+        None => 0,
+    }
+}
+
+/// How many requests were found in all items. It refuses a number that no memory holds.
+pub(crate) fn count_requests(found: &[Option<FoundItem>]) -> Result<u64, AllocError>
+    ensures { IfOk result (λ n. n ≡ requests_found found.now) }
+{
+    let mut count = 0u64;
+    for item in found {
+        count = count.checked_add(request_count(item)).ok_or(AllocError)?;
+    }
+    Ok(count)
 }
 
 /// The closed words of the work of a stage of a link are those of the link: the claimed objects are those that are loaded, and where the words

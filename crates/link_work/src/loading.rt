@@ -2,6 +2,7 @@
 
 ghost use Rattle.std.specs.Prelude.{◌≡◌, ◌<◌, ◌≤◌, IfOk, length};
 ghost use Rattle.link_claim.specs.Later.{HasReadAll};
+ghost use Rattle.link_work.specs.Requests.{requests_of};
 ghost use Rattle.link_claim.specs.Seats.{IsSettled, claimed_in};
 ghost use Rattle.link_files.specs.Inputs.{objects_in};
 ghost use Rattle.link_flags.specs.FlagWords.{numbers_of, words_of};
@@ -18,7 +19,7 @@ ghost use Rattle.link_db.specs.Database.{symbol_names};
 ghost use Rattle.link_db.specs.Seen.{seen};
 ghost use Rattle.link_work.specs.Planned.{opening_of};
 
-use crate::answer::{claimed_objects, read_targets};
+use crate::answer::{claimed_objects, count_requests, read_targets};
 use crate::plan::LinkPlan;
 use link_claim::{Closed, Gate, Plan, Words};
 use link_db::SymbolDb;
@@ -38,10 +39,12 @@ pub struct LoadedObjects {
     pub loaded: Vec<bool>,
     /// What the references of loaded objects stand for, by the ids of the symbols.
     pub targets: Vec<Option<SymbolId>>,
+    /// How many objects the references of loaded objects request, each time that one is requested.
+    pub requests: u64,
 }
 
 /// Loads the objects that the last batch of a database asks for, where earlier batches had these loaded, and had settled what these references
-/// stand for. So many workers read them, each item between two calls of the gate. The only refusal is want of memory.
+/// stand for. So many workers read them, but no more than there are items, each item between two calls of the gate. The only refusal is want of memory.
 pub fn load_objects<R: Threads + Sync, G: Gate + Sync, P: Platform + Sync>(
     rt: &R,
     alloc: Global,
@@ -68,16 +71,20 @@ pub fn load_objects<R: Threads + Sync, G: Gate + Sync, P: Platform + Sync>(
     ensures targets { IfOk result (λ r. (demangle : Bytes → Bytes) (w : Stage) → IsAtStage (platform_of P.Platform) demangle (seen db.now) w
         → w.earlier.loaded ≡ loaded.now → w.earlier.targets ≡ settled.now → IsOrderly w → r.targets.items ≡ each_from (loaded_target w r.loaded.items) 0 w.symbols) }
     ensures below { IfOk result (λ r. AreBelow (length (symbol_names (seen db.now))) r.targets.items) }
+    ensures requests { IfOk result (λ r. r.requests ≡ requests_of r.closed.view.work r.loaded.items) }
 {
     let plan = LinkPlan::new(alloc, db, loaded, settled, flags)?;
+    let workers = workers.min(plan.items()).max(1);
     let (words, seat) = Words::create(alloc, &plan)?;
     let all = read_all(rt, alloc, gate, workers, &plan, words, seat)?;
     let AllRead { closed, found } = all;
     let loaded = claimed_objects(alloc, &closed, plan.files())?;
     let targets = read_targets(alloc, plan.symbols(), settled, &found)?;
+    let requests = count_requests(&found)?;
     Ok(LoadedObjects {
         closed,
         loaded,
         targets,
+        requests,
     })
 }

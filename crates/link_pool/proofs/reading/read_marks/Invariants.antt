@@ -11,5 +11,6 @@ invariant-loop-index g l = record {
   table : l.seat.table ≡ l.initial.seat.table;
   later : IsLater l.initial.seat.view l.seat.view;
   begins : l.seat.view.begins ≡ l.initial.seat.view.begins;
+  claims : l.seat.view.claims ≡ l.initial.seat.view.claims;
   read : (j : ℕ) → j < l.index → (it : Item) → HasItem (g.P.Plan.work l.plan) l.item it → (m : Mark) → slice_get it.marks j ≡ Some m → Contains l.seat.view.marks m;
 }

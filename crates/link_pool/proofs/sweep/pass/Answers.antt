@@ -4,6 +4,9 @@ use Rattle.link_pool.specs.Found.{Sweeps}
 use Rattle.link_pool.proofs.Findings.{sweep_more}
 use Rattle.link_pool.proofs.sweep.pass.Goals as goal
 
+pub returns-in_err-read-clause-later : goal.returns-in_err-read-clause-later
+returns-in_err-read-clause-later g c = later_then c.loop-item.invariant.later c.visit.ensures.later
+
 pub loop-item-preserved : goal.loop-item-preserved
 loop-item-preserved g c =
     let inv = c.loop-item.invariant in

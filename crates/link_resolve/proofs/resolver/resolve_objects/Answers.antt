@@ -1,5 +1,6 @@
 use Rattle.std.proofs.Common.{◌≡◌, ◌∙◌, Bool, Err, List, None, ap, subst, sym}
 use Rattle.std.specs.List.{filter_map}
+use Rattle.link_work.specs.Requests.{requests_of}
 use Rattle.link_files.specs.GroupFiles.{symbols_in}
 use Rattle.link_files.specs.HeldFiles.{HeldFiles}
 use Rattle.link_files.specs.Inputs.{objects_in}
@@ -11,6 +12,7 @@ use Rattle.link_rules.specs.Comdat.{loaded_regular}
 use Rattle.link_rules.specs.Places.{first_of}
 use Rattle.link_rules.specs.Refusals.{group_cause, group_refusal}
 use Rattle.link_rules.specs.Selection.{selection_of}
+use Rattle.link_resolve.specs.Known.{Known}
 use Rattle.link_resolve.proofs.Loaded.{groups-are, known-is, strengths-are}
 use Rattle.link_resolve.proofs.resolver.resolve_objects.Goals as goal
 
@@ -39,10 +41,14 @@ returns-clause-known g c = λ demangle w is marks loaded.
     let are = groups-are w c.in_ok-found.found.loaded.items c.in_ok-found.found.loaded.items c.deref.result.now (objects_in c.groups.result.now) c.in_ok-groups.groups own own c.deref.ensures.value objects
     c.in_ok-groups.ensures.groups c.in_ok-groups.ensures.indices in
     let strengths = strengths-are w c.in_ok-found.found.loaded.items c.deref-2.result.now (symbols_in c.files.result.now.groups) c.in_ok-groups.groups c.in_ok-strengths.strengths.items are c.deref-2.ensures.value symbols c.in_ok-strengths.ensures in
-    c.new.ensures ∙ known-is w marks c.in_ok-found.found.loaded.items c.in_ok-found.found.targets.items c.in_ok-strengths.strengths.items own loaded (c.in_ok-found.ensures.targets demangle w is) strengths
+    c.new-resolved.ensures ∙ known-is w marks c.in_ok-found.found.loaded.items c.in_ok-found.found.targets.items c.in_ok-strengths.strengths.items own loaded (c.in_ok-found.ensures.targets demangle w is) strengths
 
 pub returns-clause-groups : goal.returns-clause-groups
 returns-clause-groups g c = λ demangle w is marks loaded.
     let objects = ap (λ (gs : List (Group g.row.P.Denot)). objects_in gs) c.groups.ensures ∙ sym is.stage.objects in
     groups-are w marks c.in_ok-found.found.loaded.items c.deref.result.now (objects_in c.groups.result.now) c.in_ok-groups.groups (c.in_ok-found.ensures.loaded demangle w is) loaded c.deref.ensures.value objects
     c.in_ok-groups.ensures.groups c.in_ok-groups.ensures.indices
+
+pub returns-clause-requests : goal.returns-clause-requests
+returns-clause-requests g c =
+    c.in_ok-found.ensures.requests ∙ ap (λ (k : Known). requests_of c.in_ok-found.found.closed.view.work k.marks) (sym c.new-resolved.ensures)

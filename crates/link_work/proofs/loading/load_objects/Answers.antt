@@ -1,4 +1,5 @@
 use Rattle.std.proofs.Common.{◌∙◌, ℕ, Bool, List, Option, ap, arith, length, map, subst, sym}
+use Rattle.link_work.specs.Requests.{requests_in}
 use Rattle.link_closure.specs.declared.workload.Workload.{Workload}
 use Rattle.link_input.specs.Symbols.{Symbol}
 use Rattle.link_pool.specs.Marks.{mark_of_pair}
@@ -6,11 +7,12 @@ use Rattle.link_rules.specs.Loading.{IsLoaded}
 use Rattle.link_db.specs.Database.{symbol_names}
 use Rattle.link_db.specs.Seen.{seen}
 use Rattle.link_work.specs.declared.found.FoundItem.{FoundItem}
-use Rattle.link_work.specs.Answer.{AreItemsRead, AreTargetsRead, IsReferenceIn}
+use Rattle.link_work.specs.Answer.{AreItemsRead, AreTargetsRead, IsReferenceIn, requests_found}
 use Rattle.link_work.specs.Work.{known_of}
 use Rattle.link_work.proofs.AnswerFlags.{claimed-are}
 use Rattle.link_work.proofs.AnswerLink.{targets-are}
 use Rattle.link_work.proofs.Reading.{found-below, items-read, named-all}
+use Rattle.link_work.proofs.Requests.{requests-are}
 use Rattle.link_work.proofs.loading.load_objects.Goals as goal
 
 pub returns-clause-work : goal.returns-clause-work
@@ -58,3 +60,19 @@ returns-clause-below g c =
     let own : IsReferenceIn found r = subst (λ (fs : List (Option FoundItem)). IsReferenceIn fs r) c.deref.ensures.value is in
     let below = found-below (known_of plan) plan.objects.items plan.items.items plan.roots.items (map mark_of_pair plan.root_marks.items) plan.opening.items e found plan.cut c.in_ok-all.ensures.found plan.is_sound r own in
     omega (arith, below, c.in_ok-plan.ensures.symbols))
+
+-- as many requests were found as the items of loaded objects list
+pub returns-clause-requests : goal.returns-clause-requests
+returns-clause-requests g c =
+    let plan = c.in_ok-plan.plan in
+    let e = c.in_ok-all.all.closed in
+    let found = c.in_ok-all.all.found.items in
+    let marks = c.in_ok-loaded.loaded.items in
+    let claimed = c.in_ok-loaded.ensures.claimed c.in_ok-all.ensures.settled in
+    let items : AreItemsRead (known_of plan) plan.objects.items marks found =
+    subst (λ (ms : List Bool). AreItemsRead (known_of plan) plan.objects.items ms found) (sym claimed)
+    (items-read (known_of plan) plan.objects.items plan.items.items plan.roots.items (map mark_of_pair plan.root_marks.items) plan.opening.items e found plan.cut c.in_ok-all.ensures.found) in
+    c.in_ok-requests.ensures
+    ∙ (ap (λ (fs : List (Option FoundItem)). requests_found fs) c.deref-2.ensures.value
+    ∙ (requests-are (known_of plan) plan.objects.items marks plan.items.items found plan.cut items
+    ∙ ap (λ (k : Workload). requests_in marks k.items) (sym c.in_ok-all.ensures.work)))
