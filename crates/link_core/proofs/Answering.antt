@@ -6,8 +6,10 @@ use Rattle.std.specs.Option.{option_map_or}
 use Rattle.std.specs.List.{enumerate_from, slice_index_or}
 use Rattle.link_input.specs.ObjectFile.{ObjectFile}
 use Rattle.link_input.specs.Symbols.{Symbol}
+use Rattle.link_discarding.specs.Indexed.{AreGroupsOf}
 use Rattle.link_files.specs.GroupFiles.{symbols_in}
 use Rattle.link_files.specs.HeldFiles.{HeldFiles}
+use Rattle.link_files.specs.Inputs.{objects_in}
 use Rattle.link_comdat.specs.Selected.{SelectedGroups}
 use Rattle.link_rules.specs.declared.linked.GivenVersion.{GivenVersion}
 use Rattle.link_rules.specs.Linked.{UndefinedName}
@@ -18,12 +20,12 @@ use Rattle.link_rules.specs.Rules.{PlatformRules}
 use Rattle.link_rules.specs.Selection.{Selection}
 use Rattle.link_rules.specs.Undefined.{Numbered, is_boundary_maker, is_last_alike, left_undefined, resolved, stays_undefined}
 use Rattle.link_rules.specs.Versions.{versions_given}
-use Rattle.link_rules.specs.World.{Stage, World, first_stage}
+use Rattle.link_rules.specs.World.{Stage, World}
 use Rattle.link_undefined.proofs.Numbering.{AreAt, all-at, filter-at}
 use Rattle.link_db.specs.Database.{Database}
 use Rattle.link_resolve.specs.Resolving.{Resolving}
 use Rattle.link_answer.specs.Parts.{answer_of, loaded_among, told_object, undefined_name}
-use Rattle.link_core.specs.Steps.{IsEndedWith, selected, undefined_ids}
+use Rattle.link_core.specs.Steps.{IsEndedWith, undefined_ids}
 
 -- the name of a symbol among those of all
 name-before : (symbols : List Symbol) (added : List Bytes) (s : ℕ) (x : Symbol) → slice_get symbols s ≡ Some x → slice_index_or (map (λ (y : Symbol). y.name) symbols ++ added) s [] ≡ x.name
@@ -64,21 +66,23 @@ missing-are w mapping names same are =
     are ∙ ap (λ (m : Mapping). filter (λ name. is_none (m name)) w.rules.required_exports) all
 
 -- all parts make the answer
-pub same-answer : {P : Type 0} (platform : PlatformRules) (demangle : Bytes → Bytes) (w : World) (db : Database P) (flags : List ℕ) (r : Resolving)
+pub same-answer : {P : Type 0} (platform : PlatformRules) (demangle : Bytes → Bytes) (w : World) (l : Selection) (db : Database P) (flags : List ℕ) (r : Resolving)
     (versions : List GivenVersion) (undefined : List ℕ) (missing : List Bytes)
-    → IsEndedWith platform demangle w db flags r → versions ≡ versions_given (resolved (selected w r.known)) → undefined ≡ undefined_ids (selected w r.known)
-    → missing ≡ missing_exports (first_stage w)
+    → IsEndedWith platform demangle w l db flags r → versions ≡ versions_given (resolved l) → undefined ≡ undefined_ids l
+    → missing ≡ missing_exports l.stage
     → answer_of (record { db = db; known = r.known; groups = r.groups; flags = flags; versions = versions; undefined = undefined; missing = missing })
-    ≡ linked_from (resolved (selected w r.known))
-same-answer {P} platform demangle w db flags r versions undefined missing is versions_are undefined_are missing_are =
-    let l = selected w r.known in
+    ≡ linked_from (resolved l)
+same-answer {P} platform demangle w l db flags r versions undefined missing is versions_are undefined_are missing_are =
     let us = filter (λ (u : Numbered). is_last_alike (left_undefined l) u && not (is_boundary_maker l.stage (left_undefined l) u)) (left_undefined l) in
-    let kept = ap (λ (s : SelectedGroups). s.kept) is.groups.groups in
+    let groups = subst (λ (ms : List Bool). AreGroupsOf ms l.stage.objects r.groups) (sym is.ended.marks) is.groups in
+    let kept = ap (λ (s : SelectedGroups). s.kept) groups.groups in
+    let loaded : map told_object (loaded_among r.known.marks (objects_in db.mapping.files.groups)) ≡ map told_object (loaded_among l.marks l.stage.objects) =
+    ap (λ (os : List ObjectFile). map told_object (loaded_among r.known.marks os)) (sym is.objects) ∙ ap (λ (ms : List Bool). map told_object (loaded_among ms l.stage.objects)) (sym is.ended.marks) in
     let names : map (undefined_name db.mapping.files) undefined ≡ map told_name us =
     ap (λ (ids : List ℕ). map (undefined_name db.mapping.files) ids) undefined_are
     ∙ named-each db.mapping.files us (subst (λ (xs : List Symbol). AreAt xs us) is.ended.symbols (undefined-at l)) in
     λ i. record {
-      loaded = ap (λ (os : List ObjectFile). map told_object (loaded_among r.known.marks os)) (sym is.objects) i;
+      loaded = loaded i;
       kept = kept i;
       names = map (λ (x : Symbol). x.name) (sym is.ended.symbols i) ++ is.added i;
       table = is.ended.table i;

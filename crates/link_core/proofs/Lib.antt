@@ -1,4 +1,6 @@
+pub mod Batches
+pub mod NextStage
 pub mod Refusing
-pub mod FirstStage
 pub mod Passing
+pub mod Holding
 pub mod Answering

@@ -1,37 +1,51 @@
 -- How far a link has come after each of its calls.
-use Rattle.std.proofs.Common.{◌≡◌, ◌∙◌, ◌+◌, ◌*◌, ◌<◌, ◌^◌, ◌++◌, ℕ, List, [], ◌∷◌, Bool, Option, None, Some, Result, Ok, Err, inl, inr, refl, sym, ap, subst, length, map}
-use Rattle.std.specs.Prelude.{IfErr, IfOk}
+use Rattle.std.proofs.Common.{◌≡◌, ◌∙◌, ◌+◌, ◌*◌, ◌<◌, ◌≤◌, ◌^◌, ◌⊎◌, ◌++◌, ℕ, List, [], ◌∷◌, Bool, true, false, not, Option, None, Some, Result, Ok, Err, append-nil, arith, inl, inr, refl, sym, ap, subst, length, map}
+use Rattle.std.specs.Prelude.{◌||◌, IfErr, IfOk, IfSome, filter_map, is_some, option_and_then}
+use Rattle.std.specs.List.{cons_option, flat_map, slice_index_or}
+use Rattle.std.specs.Option.{option_or}
 use Rattle.std.specs.Result.{IsErrAnd}
+use Rattle.std.proofs.lemmas.List.Elements.{filter_map-append}
 use Rattle.link_input.specs.declared.options.Options.{Options}
+use Rattle.link_input.specs.declared.world.ProcessedLinkerScript.{ProcessedLinkerScript}
+use Rattle.link_input.specs.declared.world.Scripts.{Scripts}
 use Rattle.link_input.specs.InputFiles.{Batch}
+use Rattle.link_input.specs.Symbols.{Symbol}
 use Rattle.link_flags.specs.declared.value_flags.RawFlags.{RawFlags}
 use Rattle.link_discarding.specs.Indexed.{AreGroupsOf}
 use Rattle.link_files.specs.GroupFiles.{symbols_in}
+use Rattle.link_files.specs.HeldFiles.{names_in}
 use Rattle.link_files.specs.Inputs.{objects_in}
+use Rattle.link_groups.specs.Held as held
 use Rattle.link_rules.specs.declared.refusal.LinkError.{LinkError}
-use Rattle.link_rules.specs.Answer.{IsRefused}
+use Rattle.link_rules.specs.declared.refusal.LinkError.TheVariants.{Memory}
+use Rattle.link_rules.specs.Answer.{BatchesEnd, EndsWith, IsRefused}
 use Rattle.link_rules.specs.FinalFlags.{final_flags}
 use Rattle.link_rules.specs.Loading.{IsLoaded}
-use Rattle.link_rules.specs.Marking.{marked_flags}
-use Rattle.link_rules.specs.Places.{Bytes, each_from}
-use Rattle.link_rules.specs.Refusals.{duplicate_lines, unless_none}
+use Rattle.link_rules.specs.Marking.{ended, marked_flags}
+use Rattle.link_rules.specs.Orderly.{IsOrderly}
+use Rattle.link_rules.specs.Places.{Bytes, each_from, first_of, is_empty}
+use Rattle.link_rules.specs.Refusals.{duplicate_lines, linker_script_cause, text_refusal, unless_none, version_text_cause}
 use Rattle.link_rules.specs.Rivals.{reference_table, versioned_table}
-use Rattle.link_rules.specs.Rules.{PlatformRules}
-use Rattle.link_rules.specs.Selection.{selection_of}
+use Rattle.link_rules.specs.Rules.{PlatformRules, taken_text}
+use Rattle.link_rules.specs.Selection.{Selection, selection_of}
 use Rattle.link_rules.specs.Undefined.{boundary_makers, final_table, left_undefined, resolved}
 use Rattle.link_rules.specs.Visibility.{narrowed_symbol}
-use Rattle.link_rules.specs.Work.{ComesTo, IsStageOf}
-use Rattle.link_rules.specs.World.{World, first_stage, start_of}
-use Rattle.link_rules.proofs.Stages.{orderly-stage}
+use Rattle.link_rules.specs.World.{Earlier, Stage, World, start_of, with_batch}
+use Rattle.link_rules.proofs.Files.{starts}
+use Rattle.link_rules.proofs.Stages.{orderly-grows, orderly-start, orderly-stays}
 use Rattle.link_loader.specs.Causes.{TellsCause}
-use Rattle.link_loader.specs.Holds.{AreRulesOf}
+use Rattle.link_loader.specs.Holds.{AreRulesOf, HoldsTexts}
 use Rattle.link_loader.specs.ReadTexts.{ReadTexts}
-use Rattle.link_db.specs.Database.{Database, HasTable, symbol_names}
+use Rattle.link_mapping.specs.Mapped.{AreListed, Mapped}
+use Rattle.link_symbols.specs.Lookups.{AreBelow}
+use Rattle.link_db.specs.Database.{Database, HasTable, no_names, symbol_names}
 use Rattle.link_resolve.specs.Known.{IsSelection, Known}
 use Rattle.link_resolve.specs.Resolving.{IsNextStage, Resolving, loading_cause, nothing_known}
 use Rattle.link_resolve.specs.Settled.{IsSettled}
-use Rattle.link_core.specs.Steps.{HasRoom, IsEndedWith, IsLoadedWith, IsOpened, IsRefusedWith, IsSettledWith, Selects, selected}
-use Rattle.link_core.proofs.Refusing.{selects}
+use Rattle.link_core.specs.Given.{with_one_more}
+use Rattle.link_core.specs.Steps.{HasRoom, HasRules, IsAdded, IsBefore, IsEndedWith, IsHeldAt, IsLoadedWith, IsReady, IsRefusedWith, IsSettledWith, IsSteady, first_scripts, inputs_refusal}
+use Rattle.link_core.proofs.NextStage.{all-files}
+use Rattle.link_core.proofs.Batches.{ends-behind, first-none, links-loaded}
 
 -- there is room for as much where the files are the same
 pub room-kept : {P : Type 0} (old new : Database P) (before after : List RawFlags) → new.mapping.files ≡ old.mapping.files → new.options ≡ old.options → HasTable new
@@ -46,50 +60,209 @@ room-kept {P} old new before after files options whole words room =
           (subst (λ (o : Options). length (symbol_names old) + 2 * length o.custom_sections < 2 ^ 32) (sym options) room.fits);
     }
 
--- the objects that count are loaded, with what was answered for one set of them
-pub loaded-with : {P : Type 0} (platform : PlatformRules) (demangle : Bytes → Bytes) (w : World) (before after : Database P) (read flags : List ℕ) (r : Resolving) (marks : List Bool)
-    → IsOpened platform demangle w before read → IsLoaded (first_stage w) marks → loading_cause (first_stage w) marks ≡ None
-    → IsSelection platform demangle after r.known (selection_of (first_stage w) marks) → AreGroupsOf marks (first_stage w).objects r.groups
-    → after.table ≡ reference_table (selection_of (first_stage w) marks) → flags ≡ marked_flags (selection_of (first_stage w) marks)
-    → IsLoadedWith platform demangle w after flags r
-loaded-with {P} platform demangle w before after read flags r marks opened loaded none selection groups table marked = record {
-  selects = subst (λ (ms : List Bool). Selects w (selection_of (first_stage w) ms)) selection.marks (selects w marks opened.one.later opened.texts opened.inputs loaded none);
-  selection = subst (λ (ms : List Bool). IsSelection platform demangle after r.known (selection_of (first_stage w) ms)) selection.marks selection;
-  groups = subst (λ (ms : List Bool). AreGroupsOf ms (first_stage w).objects r.groups) selection.marks groups;
-  table = subst (λ (ms : List Bool). after.table ≡ reference_table (selection_of (first_stage w) ms)) selection.marks table;
-  flags = subst (λ (ms : List Bool). flags ≡ marked_flags (selection_of (first_stage w) ms)) selection.marks marked;
+-- ---- one batch more
+
+-- no linker script of a late batch that is accepted has a version text
+no-versions : (taken : Bool) (i : ℕ) (scripts : List ProcessedLinkerScript) → linker_script_cause true taken i scripts ≡ None → filter_map (λ (s : ProcessedLinkerScript). s.version) scripts ≡ []
+no-versions taken i [] none = refl
+no-versions taken i (s ∷ ss) none = by s.version refl (λ t n. no-versions t n ss)
+  where
+    never : (b : Bool) (rest : Option LinkError) (x : Bytes) → option_or (version_text_cause true b i x) rest ≡ None → ⊥
+    never true rest x is = cc
+    never false rest x is = cc
+
+    by : (o : Option Bytes) → s.version ≡ o
+        → ((t : Bool) (n : ℕ) → linker_script_cause true t n ss ≡ None → filter_map (λ (x : ProcessedLinkerScript). x.version) ss ≡ [])
+        → filter_map (λ (x : ProcessedLinkerScript). x.version) (s ∷ ss) ≡ []
+    by None is others =
+        let rest : linker_script_cause true (taken || false) (i + 1) ss ≡ None = sym (ap (λ (o : Option Bytes). option_or (option_and_then (version_text_cause true taken i) o) (linker_script_cause true (taken || is_some o) (i + 1) ss)) is) ∙ none in
+        ap (λ (o : Option Bytes). cons_option o (filter_map (λ (x : ProcessedLinkerScript). x.version) ss)) is ∙ others (taken || false) (i + 1) rest
+    by (Some x) is others =
+        absurd (never taken (linker_script_cause true (taken || true) (i + 1) ss) x
+        (sym (ap (λ (o : Option Bytes). option_or (option_and_then (version_text_cause true taken i) o) (linker_script_cause true (taken || is_some o) (i + 1) ss)) is) ∙ none))
+
+-- the script that is taken stays the same where no version text comes
+taken-same : (texts : Scripts) (before more : List ProcessedLinkerScript) → filter_map (λ (s : ProcessedLinkerScript). s.version) more ≡ [] → taken_text texts (before ++ more) ≡ taken_text texts before
+taken-same texts before more none =
+    ap (λ (vs : List Bytes). option_or texts.version_script (first_of vs))
+    (filter_map-append (λ (s : ProcessedLinkerScript). s.version) before more
+    ∙ (ap (λ (vs : List Bytes). filter_map (λ (s : ProcessedLinkerScript). s.version) before ++ vs) none ∙ append-nil (filter_map (λ (s : ProcessedLinkerScript). s.version) before)))
+
+-- the first of a list is the first of what it is
+first-is : (x y : Batch) (xs ys : List Batch) → x ∷ xs ≡ y ∷ ys → x ≡ y
+first-is x y xs ys is = cc
+
+-- with one batch more the same script is taken as with the first one
+taken-more : (platform : PlatformRules) (demangle : Bytes → Bytes) (w : World) (done : List Batch) (b : Batch) (before : Stage) → IsBefore platform demangle w done b before
+    → inputs_refusal (not (is_empty done)) before b ≡ None
+    → is_some (taken_text w.texts (before.scripts ++ b.scripts)) ≡ is_some (taken_text w.texts w.first.scripts)
+taken-more platform demangle w done b before is none = by done is.batches is.files.scripts is.taken none
+  where
+    by : (bs : List Batch) → w.first ∷ w.later ≡ bs ++ b ∷ [] → before.scripts ≡ flat_map (λ (c : Batch). c.scripts) bs
+        → is_some (taken_text w.texts before.scripts) ≡ is_some (taken_text w.texts (first_scripts bs)) → inputs_refusal (not (is_empty bs)) before b ≡ None
+        → is_some (taken_text w.texts (before.scripts ++ b.scripts)) ≡ is_some (taken_text w.texts w.first.scripts)
+    by [] batches scripts taken fine =
+        ap (λ (ss : List ProcessedLinkerScript). is_some (taken_text w.texts (ss ++ b.scripts))) scripts
+        ∙ ap (λ (c : Batch). is_some (taken_text w.texts c.scripts)) (sym (first-is w.first b w.later [] batches))
+    by (c ∷ cs) batches scripts taken fine =
+        let free = no-versions (is_some (taken_text before.texts before.scripts)) (length before.scripts) b.scripts (first-none _ _ fine) in
+        ap (λ (o : Option Bytes). is_some o) (taken-same w.texts before.scripts b.scripts free)
+        ∙ (taken ∙ ap (λ (x : Batch). is_some (taken_text w.texts x.scripts)) (sym (first-is w.first c w.later (cs ++ b ∷ []) batches)))
+
+-- the stage at which the batch is loaded is the next one of the resolver
+pub next-stage : {P : Type 0} (platform : PlatformRules) (demangle : Bytes → Bytes) (w : World) (done : List Batch) (b : Batch) (before : Stage) (first db : Database P)
+    (numbers after : List ℕ) (known : Known) → IsBefore platform demangle w done b before → IsReady platform w done before first numbers known
+    → IsAdded platform demangle w (with_batch before b) db after → IsNextStage platform demangle db known (with_batch before b)
+next-stage platform demangle w done b before first db numbers after known is ready added = record {
+  stage = added.stage;
+  orderly = orderly-grows before b is.orderly;
+  loaded = ap (λ (e : Earlier). e.loaded) ready.left;
+  targets = ap (λ (e : Earlier). e.targets) ready.left;
 }
 
+-- once the batch is loaded, all batches of the world are held
+pub held-next : {P : Type 0} (platform : PlatformRules) (demangle : Bytes → Bytes) (w : World) (done : List Batch) (b : Batch) (before : Stage) (db after : Database P)
+    (read flags : List ℕ) (r : Resolving) (marks : List Bool) → IsBefore platform demangle w done b before → IsAdded platform demangle w (with_batch before b) db read
+    → inputs_refusal (not (is_empty done)) before b ≡ None → IsLoaded (with_batch before b) marks → loading_cause (with_batch before b) marks ≡ None
+    → IsSelection platform demangle after r.known (selection_of (with_batch before b) marks) → AreGroupsOf marks (with_batch before b).objects r.groups
+    → after.table ≡ reference_table (selection_of (with_batch before b) marks) → flags ≡ marked_flags (selection_of (with_batch before b) marks)
+    → after ≡ record db { table = after.table }
+    → IsHeldAt platform demangle w (selection_of (with_batch before b) marks) after flags r
+held-next {P} platform demangle w done b before db after read flags r marks is added none loaded fine selection groups table marked rest =
+    let s = with_batch before b in
+    let l = selection_of s marks in
+    record {
+      loaded = record {
+        selects = record { texts = is.texts; ends = is.ends (Ok l) (links-loaded (not (is_empty done)) before b marks none loaded fine) };
+        selection = selection;
+        groups = subst (λ (ms : List Bool). AreGroupsOf ms s.objects r.groups) selection.marks groups;
+        table = table;
+        flags = marked;
+      };
+      is = refl;
+      least = loaded;
+      orderly = orderly-grows before b is.orderly;
+      rules = is.rules;
+      rules_are = is.rules_are;
+      files = all-files platform demangle w done b before is;
+      texts_are = is.texts_are;
+      taken = taken-more platform demangle w done b before is none;
+      groups = subst (λ (d : Database P). held.AreGroupsOf d.options (w.first ∷ w.later) d.mapping.files.groups) (sym rest) added.groups;
+      holds = subst (λ (d : Database P). HoldsTexts platform w.options w.texts w.first.scripts d.rules) (sym rest) added.holds;
+    }
+
+-- another batch may come behind those that are held
+pub before-next : {P : Type 0} (platform : PlatformRules) (demangle : Bytes → Bytes) (w : World) (b : Batch) (l : Selection) (db : Database P) (numbers : List ℕ) (r : Resolving)
+    → IsHeldAt platform demangle w l db numbers r → IsBefore platform demangle (with_one_more w b) (w.first ∷ w.later) b (ended l)
+before-next platform demangle w b l db numbers r is = record {
+  batches = refl;
+  rules = is.rules;
+  texts = is.loaded.selects.texts;
+  ends = λ end links. ends-behind false (start_of w) w.first w.later l b end is.loaded.selects.ends links;
+  orderly = subst (λ (k : Selection). IsOrderly (ended k)) (sym is.is) (orderly-stays l.stage l.marks is.orderly is.least);
+  files = record { options_are = is.files.options_are; symbols = is.files.symbols; objects = is.files.objects; scripts = is.files.scripts; stubs = is.files.stubs };
+  texts_are = is.texts_are;
+  rules_are = is.rules_are;
+  taken = is.taken;
+}
+
+pub ready-next : {P : Type 0} (platform : PlatformRules) (demangle : Bytes → Bytes) (w : World) (b : Batch) (l : Selection) (db : Database P) (numbers : List ℕ) (r : Resolving)
+    → IsHeldAt platform demangle w l db numbers r → IsReady platform (with_one_more w b) (w.first ∷ w.later) (ended l) db numbers r.known
+ready-next platform demangle w b l db numbers r is =
+    let stage = is.loaded.selection.stage in
+    record {
+      options = sym stage.options ∙ is.files.options_are;
+      groups = is.groups;
+      lists = subst (λ (xs : List Symbol). AreListed xs db.mapping) stage.symbols stage.lists;
+      added = stage.added;
+      holds = is.holds;
+      left = λ i. record { loaded = is.loaded.selection.marks i; targets = is.loaded.selection.targets i; flags = sym is.loaded.flags i };
+    }
+
+-- before any batch, the first one may come
+pub before-first : (platform : PlatformRules) (demangle : Bytes → Bytes) (w : World) → w.later ≡ [] → HasRules platform demangle w → text_refusal w ≡ None
+    → IsBefore platform demangle w [] w.first (start_of w)
+before-first platform demangle w one rules texts =
+    let files = starts w in
+    record {
+      batches = ap (λ (bs : List Batch). w.first ∷ bs) one;
+      rules = rules;
+      texts = texts;
+      ends = λ end links. subst (λ (bs : List Batch). EndsWith false (start_of w) w.first bs end) (sym one) links;
+      orderly = orderly-start w;
+      files = record { options_are = files.same_options; symbols = files.symbols; objects = files.objects; scripts = files.scripts; stubs = files.stubs };
+      texts_are = refl;
+      rules_are = refl;
+      taken = refl;
+    }
+
+pub ready-first : {P : Type 0} (platform : PlatformRules) (w : World) (db : Database P) (numbers : List ℕ) (known : Known) → db.options ≡ w.options → db.mapping ≡ no_names
+    → HoldsTexts platform w.options w.texts [] db.rules → numbers ≡ [] → known ≡ nothing_known → IsReady platform w [] (start_of w) db numbers known
+ready-first {P} platform w db numbers known options none holds zero nothing = record {
+  options = options;
+  groups = ap (λ (m : Mapped P). m.files.groups) none;
+  lists = subst (λ (m : Mapped P). AreListed (symbols_in m.files.groups) m) (sym none) (record { plain = λ name. refl; versioned = λ name version. refl });
+  added = ap (λ (m : Mapped P). m.files.added) none;
+  holds = holds;
+  left = λ i. record { loaded = sym (ap (λ (k : Known). k.marks) nothing) i; targets = sym (ap (λ (k : Known). k.targets) nothing) i; flags = sym zero i };
+}
+
+-- where there is no file, a batch may come
+pub nothing-steady : {P : Type 0} (db : Database P) (words : List RawFlags) (known : Known) → db.mapping ≡ no_names → db.table ≡ [] → words ≡ [] → known ≡ nothing_known → IsSteady db words known
+nothing-steady {P} db words known none table zero nothing = record {
+  table = ap (λ (l : List ℕ). length l) table ∙ sym (ap (λ (m : Mapped P). length (names_in m.files)) none);
+  flags = ap (λ (l : List RawFlags). length l) zero ∙ sym (ap (λ (m : Mapped P). length (names_in m.files)) none);
+  listed = record {
+    lists = subst (λ (m : Mapped P). AreListed (symbols_in m.files.groups) m) (sym none) (record { plain = λ name. refl; versioned = λ name version. refl });
+    added = ap (λ (m : Mapped P). m.files.added) none;
+  };
+  targets = subst (λ (k : Known). AreBelow (length (symbol_names db)) k.targets) (sym nothing) (λ k d lt. absurd (omega (arith, lt)));
+}
+
+-- where nothing is known, no object is
+pub few-known : (known : Known) (n : ℕ) → known ≡ nothing_known → length known.marks ≤ n
+few-known known n nothing = subst (λ (k : Known). length k.marks ≤ n) (sym nothing) (omega arith)
+
+-- targets that are among some symbols are among more
+pub below-more : (n m : ℕ) (targets : List (Option ℕ)) → n ≤ m → AreBelow n targets → AreBelow m targets
+below-more n m targets more below = λ k d lt. by (slice_index_or targets k d) (below k d lt)
+  where
+    by : (o : Option ℕ) → IfSome o (λ t. t < n) → IfSome o (λ t. t < m)
+    by None held = tt
+    by (Some t) held = omega (arith, held, more)
+
+-- ---- behind the last batch
+
 -- rivals are settled, with what was answered for what is known
-pub settled-with : {P : Type 0} (platform : PlatformRules) (demangle : Bytes → Bytes) (w : World) (old left : Database P) (before flags : List ℕ) (r : Resolving)
-    → IsLoadedWith platform demangle w old before r → unless_none (duplicate_lines (selected w r.known)) ≡ None → IsSettled left r.known (selected w r.known)
-    → left.rules ≡ old.rules → left.table ≡ versioned_table (selected w r.known) → flags ≡ each_from (narrowed_symbol (first_stage w) before) 0 (first_stage w).symbols
-    → IsSettledWith platform demangle w left flags r
-settled-with {P} platform demangle w old left before flags r loaded none settled rules table narrowed = record {
+pub settled-with : {P : Type 0} (platform : PlatformRules) (demangle : Bytes → Bytes) (w : World) (l : Selection) (old left : Database P) (before flags : List ℕ) (r : Resolving)
+    → IsLoadedWith platform demangle w l old before r → unless_none (duplicate_lines l) ≡ None → IsSettled left r.known l
+    → left.rules ≡ old.rules → left.table ≡ versioned_table l → flags ≡ each_from (narrowed_symbol l.stage before) 0 l.stage.symbols
+    → IsSettledWith platform demangle w l left flags r
+settled-with {P} platform demangle w l old left before flags r loaded none settled rules table narrowed = record {
   selects = loaded.selects;
   duplicates = none;
   settled = settled;
-  rules = subst (λ (read : ReadTexts). AreRulesOf platform demangle read w.rules) (sym rules) loaded.selection.stage.rules;
+  rules = subst (λ (read : ReadTexts). AreRulesOf platform demangle read l.stage.rules) (sym rules) loaded.selection.stage.rules;
   groups = loaded.groups;
   table = table;
-  flags = narrowed ∙ ap (λ (fs : List ℕ). each_from (narrowed_symbol (first_stage w) fs) 0 (first_stage w).symbols) loaded.flags;
+  flags = narrowed ∙ ap (λ (fs : List ℕ). each_from (narrowed_symbol l.stage fs) 0 l.stage.symbols) loaded.flags;
 }
 
 -- the link is at its end, with what was answered for what is settled
-pub ended-with : {P : Type 0} (platform : PlatformRules) (demangle : Bytes → Bytes) (w : World) (old new : Database P) (before flags : List ℕ) (r : Resolving)
-    → IsSettledWith platform demangle w old before r → symbols_in new.mapping.files.groups ≡ symbols_in old.mapping.files.groups
+pub ended-with : {P : Type 0} (platform : PlatformRules) (demangle : Bytes → Bytes) (w : World) (l : Selection) (old new : Database P) (before flags : List ℕ) (r : Resolving)
+    → IsSettledWith platform demangle w l old before r → symbols_in new.mapping.files.groups ≡ symbols_in old.mapping.files.groups
     → objects_in new.mapping.files.groups ≡ objects_in old.mapping.files.groups → new.options ≡ old.options → new.rules ≡ old.rules
-    → new.table ≡ final_table (selected w r.known)
-    → new.mapping.files.added ≡ map (λ m. m.1.name) (boundary_makers (first_stage w) (left_undefined (selected w r.known)))
-    → flags ≡ final_flags (resolved (selected w r.known))
-    → IsEndedWith platform demangle w new flags r
-ended-with {P} platform demangle w old new before flags r is symbols objects options rules table added final = record {
+    → new.table ≡ final_table l
+    → new.mapping.files.added ≡ map (λ m. m.1.name) (boundary_makers l.stage (left_undefined l))
+    → flags ≡ final_flags (resolved l)
+    → IsEndedWith platform demangle w l new flags r
+ended-with {P} platform demangle w l old new before flags r is symbols objects options rules table added final = record {
   selects = is.selects;
   duplicates = is.duplicates;
   ended = record {
     symbols = is.settled.symbols ∙ sym symbols;
     options = is.settled.options ∙ sym options;
-    rules = subst (λ (read : ReadTexts). AreRulesOf platform demangle read w.rules) (sym rules) is.rules;
+    rules = subst (λ (read : ReadTexts). AreRulesOf platform demangle read l.stage.rules) (sym rules) is.rules;
     marks = is.settled.marks;
     table = table;
   };
@@ -116,25 +289,13 @@ pub err-into : {A E : Type 0} (r : Result A E) (P Q : E → Type 0) → ((e : E)
 err-into (Ok x) P Q into held = tt
 err-into (Err e) P Q into held = into e held
 
+-- a batch ends a link by the cause that a call tells, if it ends by that
+pub ended-by : (A : Type 0) (w : World) (cause : Option LinkError) (e : LinkError) → (cause ≡ Some e → BatchesEnd w (Err e)) → TellsCause {A = A} cause (Err e)
+    → BatchesEnd w (Err e) ⊎ (e ≡ Memory)
+ended-by A w cause e ends (inl memory) = inr memory
+ended-by A w cause e ends (inr is) = inl (ends is)
+
 -- a world is refused by the cause that a call tells, if that is why it is refused
 pub refused-by : (A : Type 0) (w : World) (cause : Option LinkError) (e : LinkError) → (cause ≡ Some e → IsRefused w e) → TellsCause {A = A} cause (Err e) → IsRefusedWith w e
 refused-by A w cause e refuses (inl memory) = inr memory
 refused-by A w cause e refuses (inr is) = inl (refuses is)
-
--- a link comes to its first stage
-first-reached : (w : World) → IsStageOf w (first_stage w)
-first-reached w = by w.later
-  where
-    by : (later : List Batch) → ComesTo (start_of w) w.first later (first_stage w)
-    by [] = refl
-    by (c ∷ cs) = inl refl
-
--- before anything is known, the first stage is the next one
-pub next-stage : {P : Type 0} (platform : PlatformRules) (demangle : Bytes → Bytes) (w : World) (db : Database P) (read : List ℕ) (known : Known)
-    → known ≡ nothing_known → IsOpened platform demangle w db read → IsNextStage platform demangle db known (first_stage w)
-next-stage platform demangle w db read known new opened = record {
-  stage = opened.stage;
-  orderly = orderly-stage w (first_stage w) (first-reached w);
-  loaded = sym (ap (λ (k : Known). k.marks) new);
-  targets = sym (ap (λ (k : Known). k.targets) new);
-}

@@ -1,11 +1,19 @@
 -- What a link is given.
-use Rattle.std.specs.Prelude.{[]}
+use Rattle.std.specs.Prelude.{List, [], ◌∷◌, ◌++◌}
 use Rattle.link_input.specs.declared.options.Options.{Options}
 use Rattle.link_input.specs.declared.world.Inputs.{Inputs}
 use Rattle.link_input.specs.declared.world.Scripts.{Scripts}
-use Rattle.link_input.specs.InputFiles.{batch_of}
-use Rattle.link_rules.specs.World.{Given}
+use Rattle.link_input.specs.InputFiles.{Batch, batch_of}
+use Rattle.link_rules.specs.World.{Given, World}
+
+-- batches, one after another, with options and texts
+abbrev pub given_in_batches : Batch → List Batch → Options → Scripts → Given
+given_in_batches first later options texts = record { first = first; later = later; options = options; texts = texts }
 
 -- one batch, whatever its platform, with options and texts
 abbrev pub given_by : {P : Type 0} → Inputs P → Options → Scripts → Given
-given_by inputs options texts = record { first = batch_of inputs; later = []; options = options; texts = texts }
+given_by inputs options texts = given_in_batches (batch_of inputs) [] options texts
+
+-- a world with one batch more
+abbrev pub with_one_more : World → Batch → World
+with_one_more w b = record w { later = w.later ++ b ∷ [] }

@@ -8,14 +8,14 @@ ghost use Rattle.link_mapping.specs.Mapped.{mapping_of};
 ghost use Rattle.link_rules.specs.Answer.{IsLinked};
 ghost use Rattle.link_rules.specs.Places.{Bytes};
 ghost use Rattle.link_rules.specs.Rules.{Rules};
+ghost use Rattle.link_rules.specs.Selection.{Selection};
 ghost use Rattle.link_rules.specs.World.{World};
 ghost use Rattle.link_db.specs.Database.{HasTable, symbol_names};
 ghost use Rattle.link_db.specs.Seen.{seen};
 ghost use Rattle.link_answer.specs.Parts.{answer_of};
 ghost use Rattle.link_answer.specs.Seen as answer;
 ghost use Rattle.link_rules.specs.Undefined.{resolved};
-ghost use Rattle.link_rules.specs.Versions.{versions_given};
-ghost use Rattle.link_core.specs.Steps.{HasRoom, IsEndedWith, IsRefusedWith, IsSettledWith, selected, undefined_ids};
+ghost use Rattle.link_core.specs.Steps.{HasRoom, IsEndedWith, IsRefusedWith, IsSettledWith, undefined_ids};
 
 use link_answer::Linked;
 use link_db::SymbolDb;
@@ -83,10 +83,10 @@ fn end_symbols<P: Platform>(
     ensures table { OnOk result (HasTable (seen db.new)) }
     ensures words { OnOk result (length (words_of flags.new) ≡ length (symbol_names (seen db.new))) }
     ensures within { IfOk result (λ ids. All (λ s. s < length (symbol_names (seen db.new))) ids.items) }
-    ensures ended { OnOk result ((demangle : Bytes → Bytes) (w : World) → IsSettledWith (platform_of P.Platform) demangle w (seen db.old) (numbers_of (words_of flags.old)) resolver.now
-        → IsEndedWith (platform_of P.Platform) demangle w (seen db.new) (numbers_of (words_of flags.new)) resolver.now) }
-    ensures undefined { IfOk result (λ ids. (demangle : Bytes → Bytes) (w : World)
-        → IsSettledWith (platform_of P.Platform) demangle w (seen db.old) (numbers_of (words_of flags.old)) resolver.now → ids.items ≡ undefined_ids (selected w resolver.now.known)) }
+    ensures ended { OnOk result ((demangle : Bytes → Bytes) (w : World) (l : Selection) → IsSettledWith (platform_of P.Platform) demangle w l (seen db.old) (numbers_of (words_of flags.old)) resolver.now
+        → IsEndedWith (platform_of P.Platform) demangle w l (seen db.new) (numbers_of (words_of flags.new)) resolver.now) }
+    ensures undefined { IfOk result (λ ids. (demangle : Bytes → Bytes) (w : World) (l : Selection)
+        → IsSettledWith (platform_of P.Platform) demangle w l (seen db.old) (numbers_of (words_of flags.old)) resolver.now → ids.items ≡ undefined_ids l) }
 {
     db.handle_rust_version_script(flags);
     let undefined = resolver.canonicalise_undefined(alloc, db, flags, custom_sections)?;
@@ -108,13 +108,13 @@ fn endings<P: Platform, D: Demangler>(
     ensures table { OnOk result (HasTable (seen db.new)) }
     ensures words { OnOk result (length (words_of flags.new) ≡ length (symbol_names (seen db.new))) }
     ensures within { IfOk result (λ told. All (λ s. s < length (symbol_names (seen db.new))) told.0.items) }
-    ensures refused { IfErr result (λ error. (w : World)
-        → IsSettledWith (platform_of P.Platform) (D.demangled demangler.now) w (seen db.old) (numbers_of (words_of flags.old)) resolver.now → IsRefusedWith w error) }
-    ensures objects { OnOk result ((w : World)
-        → IsSettledWith (platform_of P.Platform) (D.demangled demangler.now) w (seen db.old) (numbers_of (words_of flags.old)) resolver.now
-        → objects_in (seen db.new).mapping.files.groups ≡ w.first.objects) }
-    ensures linked { IfOk result (λ told. (w : World)
-        → IsSettledWith (platform_of P.Platform) (D.demangled demangler.now) w (seen db.old) (numbers_of (words_of flags.old)) resolver.now
+    ensures refused { IfErr result (λ error. (w : World) (l : Selection)
+        → IsSettledWith (platform_of P.Platform) (D.demangled demangler.now) w l (seen db.old) (numbers_of (words_of flags.old)) resolver.now → IsRefusedWith w error) }
+    ensures objects { OnOk result ((w : World) (l : Selection)
+        → IsSettledWith (platform_of P.Platform) (D.demangled demangler.now) w l (seen db.old) (numbers_of (words_of flags.old)) resolver.now
+        → objects_in (seen db.new).mapping.files.groups ≡ l.stage.objects) }
+    ensures linked { IfOk result (λ told. (w : World) (l : Selection)
+        → IsSettledWith (platform_of P.Platform) (D.demangled demangler.now) w l (seen db.old) (numbers_of (words_of flags.old)) resolver.now
         → IsLinked w (answer_of (record {
           db = seen db.new;
           known = resolver.now.known;
@@ -143,13 +143,13 @@ pub(crate) fn end_link<P: Platform, D: Demangler>(
     requires room { HasRoom (seen db) (words_of flags) }
     requires added { (seen db).mapping.files.added ≡ [] }
     requires sections { custom_sections.now ≡ (seen db).options.custom_sections }
-    ensures refused { IfErr result (λ error. (w : World)
-        → IsSettledWith (platform_of P.Platform) (D.demangled demangler.now) w (seen db) (numbers_of (words_of flags)) resolver → IsRefusedWith w error) }
-    ensures objects { IfOk result (λ linked. (w : World)
-        → IsSettledWith (platform_of P.Platform) (D.demangled demangler.now) w (seen db) (numbers_of (words_of flags)) resolver
-        → objects_in (answer.seen linked).db.mapping.files.groups ≡ w.first.objects) }
-    ensures linked { IfOk result (λ linked. (w : World)
-        → IsSettledWith (platform_of P.Platform) (D.demangled demangler.now) w (seen db) (numbers_of (words_of flags)) resolver → IsLinked w (answer_of (answer.seen linked))) }
+    ensures refused { IfErr result (λ error. (w : World) (l : Selection)
+        → IsSettledWith (platform_of P.Platform) (D.demangled demangler.now) w l (seen db) (numbers_of (words_of flags)) resolver → IsRefusedWith w error) }
+    ensures objects { IfOk result (λ linked. (w : World) (l : Selection)
+        → IsSettledWith (platform_of P.Platform) (D.demangled demangler.now) w l (seen db) (numbers_of (words_of flags)) resolver
+        → objects_in (answer.seen linked).db.mapping.files.groups ≡ l.stage.objects) }
+    ensures linked { IfOk result (λ linked. (w : World) (l : Selection)
+        → IsSettledWith (platform_of P.Platform) (D.demangled demangler.now) w l (seen db) (numbers_of (words_of flags)) resolver → IsLinked w (answer_of (answer.seen linked))) }
 {
     let (undefined, versions, missing) = endings(
         alloc,

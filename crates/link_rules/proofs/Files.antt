@@ -77,12 +77,12 @@ files-counted n (f ∷ fs) = omega (arith, length-append (file_symbols n f) (sym
 -- ---- stages
 
 -- a stage has the files of these batches
-record HasFiles (options : Options) (batches : List Batch) (w : Stage) : Type 0 where
-  same_options : w.options ≡ options
-  symbols : w.symbols ≡ symbols_of 0 (input_files options batches)
-  objects : w.objects ≡ flat_map (λ b. b.objects) batches
-  scripts : w.scripts ≡ flat_map (λ b. b.scripts) batches
-  stubs : w.stubs ≡ flat_map (λ b. b.stubs) batches
+pub record HasFiles (options : Options) (batches : List Batch) (w : Stage) : Type 0 where
+  pub same_options : w.options ≡ options
+  pub symbols : w.symbols ≡ symbols_of 0 (input_files options batches)
+  pub objects : w.objects ≡ flat_map (λ b. b.objects) batches
+  pub scripts : w.scripts ≡ flat_map (λ b. b.scripts) batches
+  pub stubs : w.stubs ≡ flat_map (λ b. b.stubs) batches
 
 -- how many objects the files of batches are
 files-objects : (options : Options) (batches : List Batch) → objects_in (input_files options batches) ≡ length (flat_map (λ b. b.objects) batches)
@@ -108,7 +108,7 @@ more : {A : Type 0} (f : Batch → List A) (batches : List Batch) (b : Batch) �
 more f batches b = flat_map-append f batches (b ∷ []) ∙ ap (λ xs. flat_map f batches ++ xs) (append-nil (f b))
 
 -- before any batch there is the prelude
-starts : (world : World) → HasFiles world.options [] (start_of world)
+pub starts : (world : World) → HasFiles world.options [] (start_of world)
 starts world = record {
   same_options = refl;
   symbols = sym (append-nil (file_symbols 0 (prelude_file world.options)));
@@ -118,7 +118,7 @@ starts world = record {
 }
 
 -- a batch brings its files
-grows : (options : Options) (batches : List Batch) (w : Stage) (b : Batch) → HasFiles options batches w → HasFiles options (batches ++ b ∷ []) (with_batch w b)
+pub grows : (options : Options) (batches : List Batch) (w : Stage) (b : Batch) → HasFiles options batches w → HasFiles options (batches ++ b ∷ []) (with_batch w b)
 grows options batches w b has = record {
   same_options = has.same_options;
   symbols =
@@ -133,7 +133,7 @@ grows options batches w b has = record {
 }
 
 -- the end of a batch brings none
-stays : (options : Options) (batches : List Batch) (w : Stage) (marks : List Bool) → HasFiles options batches w → HasFiles options batches (ended (selection_of w marks))
+pub stays : (options : Options) (batches : List Batch) (w : Stage) (marks : List Bool) → HasFiles options batches w → HasFiles options batches (ended (selection_of w marks))
 stays options batches w marks has = record { same_options = has.same_options; symbols = has.symbols; objects = has.objects; scripts = has.scripts; stubs = has.stubs }
 
 -- some of the batches are those of a stage
@@ -157,7 +157,7 @@ comes options done before b (c ∷ cs) w has (inr on) =
     (found.0, found.1, between done b (c ∷ cs) ∙ found.2, found.3)
 
 -- the counts of a stage are those of its batches
-counts-same : (options : Options) (batches : List Batch) (w : Stage) → HasFiles options batches w → counts_at w ≡ counts_of options batches
+pub counts-same : (options : Options) (batches : List Batch) (w : Stage) → HasFiles options batches w → counts_at w ≡ counts_of options batches
 counts-same options batches w has =
     let many : length w.symbols ≡ total symbol_count (input_files options batches) =
     ap (λ (xs : List Symbol). length xs) has.symbols ∙ files-counted 0 (input_files options batches) in

@@ -120,7 +120,7 @@ request_is w s u t y kept at =
 -- ---- what is done
 
 -- so it is at the start
-orderly-start : (world : World) → IsOrderly (start_of world)
+pub orderly-start : (world : World) → IsOrderly (start_of world)
 orderly-start world = record {
   loaded = omega arith;
   objects = λ x f within is. by_symbol x f is (map_from (λ d. symbol_of d.name (in_prelude d)) (prelude_symbols world.options) x within);
@@ -146,7 +146,7 @@ done-grows w b s u t settled done = record {
     at = slice_get-more w.symbols _ t done.symbol done.at
 
 -- so it stays where a batch comes
-orderly-grows : (w : Stage) (b : Batch) → IsOrderly w → IsOrderly (with_batch w b)
+pub orderly-grows : (w : Stage) (b : Batch) → IsOrderly w → IsOrderly (with_batch w b)
 unfolding HoldsWithin
 orderly-grows w b orderly = record {
   loaded = let held = orderly.loaded in omega (arith, longer);
@@ -251,7 +251,7 @@ done-now w marks s u t loaded at is has settled = record {
         ∙ ap (λ n. Some (marked_symbol w (all_marks l) n has.symbol)) zero_add)
 
 -- so it stays where the batch ends
-orderly-stays : (w : Stage) (marks : List Bool) → IsOrderly w → IsLoaded w marks → IsOrderly (ended (selection_of w marks))
+pub orderly-stays : (w : Stage) (marks : List Bool) → IsOrderly w → IsLoaded w marks → IsOrderly (ended (selection_of w marks))
 orderly-stays w marks orderly loaded = record {
   loaded = let each = loaded.each in omega arith;
   objects = orderly.objects;

@@ -1,0 +1,24 @@
+use Rattle.link_core.proofs.Passing.{err-into, ok-into, refused-through}
+use Rattle.link_core.proofs.link.finish_link.Goals as goal
+
+-- the rivals are the cause
+pub returns-in_err-db-clause-refused : goal.returns-in_err-db-clause-refused
+returns-in_err-db-clause-refused g c =
+    let demangle = g.D.Demangler.demangled c.args.demangler.now in
+    refused-through c.from_residual-in_err-db.result _ c.in_err-db.field-0.0 c.from_residual-in_err-db.ensures.1 (λ w l loaded. c.in_err-db.ensures.refused demangle w l loaded)
+
+-- what comes behind them is
+pub returns-clause-refused : goal.returns-clause-refused
+returns-clause-refused g c =
+    let demangle = g.D.Demangler.demangled c.args.demangler.now in
+    err-into c.end_link.result _ _ (λ error held. λ w l loaded. held w l (c.in_ok-db.ensures.settled demangle w l loaded)) c.end_link.ensures.refused
+
+pub returns-clause-objects : goal.returns-clause-objects
+returns-clause-objects g c =
+    let demangle = g.D.Demangler.demangled c.args.demangler.now in
+    ok-into c.end_link.result _ _ (λ linked held. λ w l loaded. held w l (c.in_ok-db.ensures.settled demangle w l loaded)) c.end_link.ensures.objects
+
+pub returns-clause-linked : goal.returns-clause-linked
+returns-clause-linked g c =
+    let demangle = g.D.Demangler.demangled c.args.demangler.now in
+    ok-into c.end_link.result _ _ (λ linked held. λ w l loaded. held w l (c.in_ok-db.ensures.settled demangle w l loaded)) c.end_link.ensures.linked
