@@ -1,6 +1,6 @@
 //! The report of a link.
 
-ghost use Rattle.std.specs.Prelude.{◌≡◌, ◌<◌, ◌++◌, [], IfOk, OnOk, length, string_bytes};
+ghost use Rattle.std.specs.Prelude.{◌≡◌, ◌<◌, ◌++◌, [], IfOk, OnOk, drop, length, string_bytes};
 ghost use Rattle.std.specs.List.{flat_map, slice_index_or};
 ghost use Rattle.link_rules.specs.Places.{each_from};
 ghost use Rattle.link_rules.specs.Report.{symbol_line, undefined_line, joined_lines, report_text};
@@ -15,6 +15,8 @@ use crate::lines::{
 use link_answer::Linked;
 use link_ids::SymbolId;
 use link_input::Platform;
+use link_names::NameView;
+use link_symbols::symbols;
 use std::alloc::{AllocError, Global};
 
 /// The report of a link, line by line: each loaded object, each COMDAT group that was kept, each
@@ -35,19 +37,37 @@ pub fn report_text<P: Platform>(alloc: Global, linked: &Linked<P>) -> Result<Vec
     Ok(text.into_bytes())
 }
 
-/// Adds the lines of the symbols, in the order of their ids.
+/// Adds the lines of the symbols, in the order of their ids: those of files, and behind them those that the linker added.
 fn write_symbol_lines<P: Platform>(text: &mut String, linked: &Linked<P>) -> Result<(), AllocError>
     ensures { let answer = answer_of (seen linked.now) in
         OnOk result (string_bytes text.new ≡ string_bytes text.old ++ joined_lines (each_from (symbol_line answer.table answer.flags) 0 answer.names)) }
 {
-    for id in 0..linked.num_symbols() {
-        write_line_of_symbol(text, linked, SymbolId::from_usize(id))?;
+    for id in write_lines_of_files(text, linked)?..linked.num_symbols() {
+        write_line_at(text, linked, SymbolId::from_usize(id))?;
     }
     Ok(())
 }
 
-/// Adds the line of the symbol.
-fn write_line_of_symbol<P: Platform>(
+/// Adds the lines of the symbols of files, and answers how many there are. The files are walked: a symbol that is looked up by its id is searched
+/// for anew among all of them.
+fn write_lines_of_files<P: Platform>(
+    text: &mut String,
+    linked: &Linked<P>,
+) -> Result<usize, AllocError>
+    ensures { let answer = answer_of (seen linked.now) in
+        IfOk result (λ count. string_bytes text.new ++ joined_lines (each_from (symbol_line answer.table answer.flags) count (drop count answer.names))
+        ≡ string_bytes text.old ++ joined_lines (each_from (symbol_line answer.table answer.flags) 0 answer.names)) }
+{
+    let mut count = 0;
+    for (id, symbol) in symbols(linked.db().files()) {
+        write_line_of_symbol(text, linked, id, &symbol.name())?;
+        count += 1;
+    }
+    Ok(count)
+}
+
+/// Adds the line of the symbol, whose name is looked up.
+fn write_line_at<P: Platform>(
     text: &mut String,
     linked: &Linked<P>,
     id: SymbolId,
@@ -56,8 +76,21 @@ fn write_line_of_symbol<P: Platform>(
     ensures { let answer = answer_of (seen linked.now) in
         OnOk result (string_bytes text.new ≡ string_bytes text.old ++ symbol_line answer.table answer.flags id (slice_index_or answer.names id [])) }
 {
-    let name = linked.symbol_name(id);
-    write_symbol_line(text, id, &name, linked.definition(id), linked.flags(id))
+    write_line_of_symbol(text, linked, id, &linked.symbol_name(id))
+}
+
+/// Adds the line of the symbol, which has this name.
+fn write_line_of_symbol<P: Platform>(
+    text: &mut String,
+    linked: &Linked<P>,
+    id: SymbolId,
+    name: &NameView<'_>,
+) -> Result<(), AllocError>
+    requires { id < length (symbol_names (seen linked.now).db) }
+    ensures { let answer = answer_of (seen linked.now) in
+        OnOk result (string_bytes text.new ≡ string_bytes text.old ++ symbol_line answer.table answer.flags id name.now) }
+{
+    write_symbol_line(text, id, name, linked.definition(id), linked.flags(id))
 }
 
 /// Adds the lines of the undefined names.

@@ -10,4 +10,4 @@ abbrev pub invariant-loop-id : goal.invariant-loop-id
 invariant-loop-id g l =
     let answer = answer_of (seen l.linked) in
     string_bytes l.text ++ joined_lines (each_from (symbol_line answer.table answer.flags) l.id (drop l.id answer.names))
-    ≡ string_bytes l.initial.text ++ joined_lines (each_from (symbol_line answer.table answer.flags) 0 answer.names)
+    ≡ string_bytes l.fn.text ++ joined_lines (each_from (symbol_line answer.table answer.flags) 0 answer.names)
