@@ -126,19 +126,19 @@ fn neither_workers_nor_pieces_change_a_byte(rt: HostRuntime) -> Result<(), Fail>
     Ok(())
 }
 
-/// How the link of the archive ends whose source fails at a call: four calls give bytes, and the fifth the end.
+/// How the link of the archive ends whose source, which gives seven bytes a call, fails at a call: 51 calls give bytes, and the next the end.
 fn after_read(call: u64) -> (Status, &'static [u8]) {
-    if call <= 5 {
+    if call <= 52 {
         (Status::ReadFault, b"error: read fault\n")
     } else {
         (Status::Linked, ARCHIVE_REPORT.as_bytes())
     }
 }
 
-/// How it ends where its sink, which takes a hundred bytes a call, fails at a call.
+/// How it ends where its sink, which takes five bytes a call, fails at a call.
 fn after_write(call: u64) -> (Status, &'static [u8]) {
     let report = ARCHIVE_REPORT.as_bytes();
-    match report.get(..(call as usize).saturating_sub(1).saturating_mul(100)) {
+    match report.get(..(call as usize).saturating_sub(1).saturating_mul(5)) {
         Some(before) if before.len() < report.len() => (Status::WriteFault, before),
         _ => (Status::Linked, report),
     }
@@ -147,13 +147,20 @@ fn after_write(call: u64) -> (Status, &'static [u8]) {
 #[test]
 fn each_call_of_source_and_sink_may_fail(rt: HostRuntime) -> Result<(), Fail> {
     let alloc = rt.alloc();
-    for call in 1u64..10 {
-        let (ended, taken) = ran(&rt, alloc, "link 2", ARCHIVE, 100, call, 0)?;
+    for call in 1u64..55 {
+        let (ended, taken) = ran(&rt, alloc, "link 2", ARCHIVE, 7, call, 0)?;
         let (status, text) = after_read(call);
         assert!(rt; ended == status && taken.as_slice() == text, "read {call}");
-        let (ended, taken) = ran(&rt, alloc, "link 2", ARCHIVE, 100, 0, call)?;
+    }
+    for call in 1u64..103 {
+        let (ended, taken) = ran(&rt, alloc, "link 2", ARCHIVE, 5, 0, call)?;
         let (status, text) = after_write(call);
         assert!(rt; ended == status && taken.as_slice() == text, "write {call}");
     }
+    let (ended, taken) = ran(&rt, alloc, "link 2", ARCHIVE, 5, 1, 1)?;
+    assert!(rt;
+        ended == Status::WriteFault && taken.is_empty(),
+        "both fail at once"
+    );
     Ok(())
 }

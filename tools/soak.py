@@ -1,0 +1,97 @@
+#!/usr/bin/env python3
+"""Runs a built program on generated commands beside an independent program, for a time, in slices that end by themselves.
+
+    tools/soak.py PROGRAM --cases 'COMMAND' [--seconds S] [--from SEED] [--slice N] [--jobs J]
+
+COMMAND FOLDER N SEED (the last three words are put behind it) writes the cases of N seeds from SEED on into a folder: for
+each one SEED.json, standard input; SEED.words, the words; SEED.status and SEED.out, the status and the bytes that are due, by
+a program that shares no code with the one that is tried. A slice is N of them (200 if not given). J slices (one a processor)
+run side by side, and for S seconds (60 if not given) new ones begin. Each case runs with its own words, and where these are
+`link W` with another number of workers too. Prints a line for each slice with its seeds, and at the end where to go on. A
+case whose status or bytes differ, that ends by a signal, or that takes more than a processor second, is told and left in
+soak_differs/; then the status is 1.
+"""
+import argparse
+import concurrent.futures
+import itertools
+import os
+import pathlib
+import resource
+import shlex
+import shutil
+import subprocess
+import sys
+import tempfile
+import time
+
+# Processor seconds that a case may take. A whole number, since it is a limit of the system, by which a run is ended.
+SECONDS = 1
+WORKERS = (1, 3, 16)
+
+
+def all_words(seed, words):
+    """The words, and where they link also those with another number of workers."""
+    yield words
+    if words.startswith("link "):
+        yield f"link {WORKERS[seed % len(WORKERS)]}"
+
+
+def ran(program, words, stdin):
+    limit = lambda: resource.setrlimit(resource.RLIMIT_CPU, (SECONDS, SECONDS))
+    done = subprocess.run([program, *words.split()], input=stdin, capture_output=True, preexec_fn=limit)
+    return done.returncode, done.stdout
+
+
+def tried(program, cases, count, seed):
+    """Runs a slice. Answers how many runs it was, how often each status came, and lines for what differs."""
+    runs, statuses, differ = 0, {}, []
+    with tempfile.TemporaryDirectory() as name:
+        folder = pathlib.Path(name)
+        subprocess.run([*cases, folder, str(count), str(seed)], check=True, stdout=subprocess.DEVNULL)
+        for case in range(seed, seed + count):
+            stdin, out = ((folder / f"{case}.{end}").read_bytes() for end in ("json", "out"))
+            due = int((folder / f"{case}.status").read_text()), out
+            for words in all_words(case, (folder / f"{case}.words").read_text()):
+                got = ran(program, words, stdin)
+                runs += 1
+                statuses[got[0]] = statuses.get(got[0], 0) + 1
+                if got != due:
+                    differ.append(f"seed {case}, {words!r}: status {got[0]}, not {due[0]}, or other bytes: {got[1][:80]!r}")
+                    kept = pathlib.Path("soak_differs")
+                    kept.mkdir(exist_ok=True)
+                    for end in ("json", "words", "out", "status"):
+                        shutil.copy(folder / f"{case}.{end}", kept)
+    return seed, runs, statuses, differ
+
+
+def main():
+    reader = argparse.ArgumentParser(usage=__doc__)
+    reader.add_argument("program")
+    reader.add_argument("--cases", required=True, type=shlex.split)
+    reader.add_argument("--seconds", type=float, default=60)
+    reader.add_argument("--from", type=int, default=0, dest="first")
+    reader.add_argument("--slice", type=int, default=200)
+    reader.add_argument("--jobs", type=int, default=os.cpu_count())
+    given = reader.parse_args()
+    program, end = os.path.abspath(given.program), time.monotonic() + given.seconds
+    seeds = itertools.count(given.first, given.slice)
+    all_runs, all_statuses, differ, running = 0, {}, 0, set()
+    with concurrent.futures.ThreadPoolExecutor(given.jobs) as pool:
+        while running or time.monotonic() < end:
+            while len(running) < given.jobs and time.monotonic() < end:
+                running.add(pool.submit(tried, program, given.cases, given.slice, next(seeds)))
+            done, running = concurrent.futures.wait(running, return_when=concurrent.futures.FIRST_COMPLETED)
+            for seed, runs, statuses, lines in (one.result() for one in done):
+                print(f"seeds {seed} to {seed + given.slice - 1}: {runs} runs, {len(lines)} differ", flush=True)
+                for line in lines:
+                    print(line, file=sys.stderr)
+                all_runs, differ = all_runs + runs, differ + len(lines)
+                for status, count in statuses.items():
+                    all_statuses[status] = all_statuses.get(status, 0) + count
+    by_status = ", ".join(f"{count} with status {status}" for status, count in sorted(all_statuses.items()))
+    print(f"{all_runs} runs ({by_status}), {differ} differ; go on with --from {next(seeds)}")
+    sys.exit(1 if differ else 0)
+
+
+if __name__ == "__main__":
+    main()
