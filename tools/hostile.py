@@ -7,8 +7,8 @@ PART is `shapes`, `products`, `longest` or `limits` (all of them if none is give
 
 - shapes: manifests of M megabytes (10 if not given), each of one thing again and again: values that say nothing in few
   bytes, texts, numbers, and links of many equal names, objects, sections, groups and options.
-- products: what takes the time of a product: versions of a name and names of one chain with each other, patterns with names,
-  a long pattern with a long name.
+- products: what takes the time of a product: names of one chain with each other, patterns that begin and end with a star with
+  names, a long pattern with a long name.
 - longest: texts of the greatest length that is read, and a byte more.
 - limits: links under a limit of the address space, from what the program needs to read the deepest nesting (so that its
   stack, which no call can refuse, has room) to what the link needs: each ends with status 6 and nothing written, or with the bytes that are due.
@@ -95,6 +95,7 @@ LINKS = {
     "names": (SYMBOLS[0], b'{"name":"n%d","place":1},', *SYMBOLS[1:], LOADED),
     "empty names": (SYMBOLS[0], b'{"name":"","place":1},', *SYMBOLS[1:], None),
     "weak definitions of a name": (SYMBOLS[0], b'{"name":"f","place":1,"bind":"weak"},', *SYMBOLS[1:], LOADED),
+    "versions of a name": (SYMBOLS[0], b'{"name":"f","place":1,"bind":"weak","version":"V%d"},', *SYMBOLS[1:], LOADED),
     "common ones, each larger": (SYMBOLS[0], b'{"name":"f","place":"common","size":%d},', *SYMBOLS[1:], LOADED),
     "references to a name": (SYMBOLS[0], b'{"name":"f","place":"undefined"},', *SYMBOLS[1:], LOADED),
     "references of their own": (SYMBOLS[0], b'{"name":"n%d","place":"undefined"},', *SYMBOLS[1:], LOADED),
@@ -118,6 +119,7 @@ LINKS = {
     "symbols of the linker": (b'{"objects":[{"name":"a.o"}],"linker_symbols":[{"name":"n","placement":"load_base"}',
                               b',{"name":"n%d","placement":"load_base"}', b"", b"]}", LOADED),
     "symbols of a script": (b'{"objects":[{"name":"a.o"}],"scripts":[{"name":"s","symbols":[{"name":"n"}', b',{"name":"n%d"}', b"", b"]}]}", LOADED),
+    "batches past the limit": (b'{"objects":[{"name":"a.o"}],"batches":[{}', b",{}", b"", b"]}", (3, b"error: manifest: batches: too many\n")),
     "scripts past the limit": (b'{"objects":[{"name":"a.o"}],"scripts":[{"name":"s"}', b',{"name":"s"}', b"", b"]}", (1, b"error: Too many linker scripts: ")),
     "names of a stub library": (b'{"objects":[{"name":"a.o"}],"stubs":[{"name":"l","weak":["n"', b',"n%d"', b"", b"]}]}", LOADED),
 }
@@ -136,13 +138,6 @@ def chosen_names(count):
     yield SYMBOLS[1] + SYMBOLS[2]
 
 
-def of_symbols(form, count):
-    """A manifest of so many symbols."""
-    yield SYMBOLS[0]
-    yield from (form % number + b"," for number in range(count))
-    yield SYMBOLS[1] + SYMBOLS[2]
-
-
 def of_patterns(patterns, names):
     """A manifest of an object with these names, and a version script with these patterns."""
     yield b'{"output":"shared","version_script":"{ global: ' + b"".join(pattern + b"; " for pattern in patterns) + b'local: *; };",'
@@ -151,7 +146,6 @@ def of_patterns(patterns, names):
 
 def products():
     """What takes the time of a product: a name, the pieces of a manifest, and the number of steps."""
-    yield "versions of a name", of_symbols(b'{"name":"f","place":1,"bind":"weak","version":"V%d"}', 3000), 3000 ** 2
     yield "names of one chain", chosen_names(20_000), 20_000 ** 2
     yield "patterns and names", of_patterns([b"*x%d*" % n for n in range(3000)], [b"name%d" % n for n in range(3000)]), 3000 ** 2
     yield "a long pattern and name", of_patterns([b"*" + b"a" * 5_000 + b"b"], [b"a" * 20_000]), 5_000 * 20_000

@@ -10,7 +10,7 @@ import pathlib
 import subprocess
 import sys
 
-WORLDS = ["rows", "script_rows", "guard_rows", "rival_rows", "worlds"]
+WORLDS = ["rows", "script_rows", "guard_rows", "rival_rows", "worlds", "batch_rows", "batch_worlds"]
 WORKERS = [1, 2, 7, 256]
 
 

@@ -2,7 +2,6 @@
 use Rattle.std.proofs.Common.{◌&&◌, ◌≡◌, ◌∙◌, ℕ, suc, true, List, [], ◌∷◌, Option, Some, None, refl, sym, ap, Bool, false}
 use Rattle.std.specs.Prelude.{slice_get}
 use Rattle.std.specs.Option.{option_map, option_map_or, option_and_then}
-use Rattle.link_names.specs.NameHash.{fnv_1a}
 use Rattle.link_buckets.specs.declared.bucket.Bucket.{Bucket}
 use Rattle.link_buckets.specs.declared.buckets.Buckets.{Buckets}
 use Rattle.link_buckets.specs.declared.head.Head.{Head}
@@ -10,7 +9,7 @@ use Rattle.link_buckets.specs.declared.label.Label.{Label}
 use Rattle.link_buckets.specs.Bucket.{definitions_in, heads_in, label_in, overridden_in}
 use Rattle.link_buckets.specs.Buckets.{AreKeyed, buckets_in, definitions_at, label_at, overridden_at}
 use Rattle.link_buckets.specs.Heads.{HaveKeys, head_of, ids_of, is_head, is_used}
-use Rattle.link_buckets.specs.Keys.{Extends, Key, leads_to, number_of}
+use Rattle.link_buckets.specs.Keys.{Extends, Key, leads_to, number_of, hash_of}
 use Rattle.link_buckets.proofs.Keys.{key_there, leads_from}
 use Rattle.link_buckets.proofs.Search.{labelled_head}
 
@@ -24,7 +23,7 @@ same_lead old new label hash asked more number =
 same_number : (old new : Label → Option Key) (label : Label) (hash : ℕ) → Extends old new → number_of old label ≡ Some hash → number_of new label ≡ Some hash
 same_number old new label hash more number =
     let there = key_there old label hash number in
-    ap (option_map (λ (key : Key). fnv_1a key.name)) (more label there.0 there.1 ∙ sym there.1) ∙ number
+    ap (option_map hash_of) (more label there.0 there.1 ∙ sym there.1) ∙ number
 
 -- the same head is found by tests that say the same of each
 pub same_found : (old new : Label → Option Key) (heads : List Head) (asked : Key) → ((k : ℕ) (h : Head) → slice_get heads k ≡ Some h → is_head new asked h ≡ is_head old asked h) → head_of new heads asked ≡ head_of old heads asked

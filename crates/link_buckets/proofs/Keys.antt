@@ -4,9 +4,8 @@ use Rattle.std.specs.Option.{option_eq, option_map, option_map_or}
 use Rattle.std.specs.Str.{bytes_eq}
 use Rattle.std.proofs.lemmas.Slice.Eq.{bytes_eq-Decides}
 use Rattle.std.proofs.lemmas.Option.{same_Some}
-use Rattle.link_names.specs.NameHash.{fnv_1a}
 use Rattle.link_buckets.specs.declared.label.Label.{Label}
-use Rattle.link_buckets.specs.Keys.{Key, same_key, leads_to, have_one_key, number_of}
+use Rattle.link_buckets.specs.Keys.{Key, same_key, leads_to, have_one_key, number_of, hash_of}
 
 -- both tests hold
 pub and-both : (a b : Bool) → (a && b) ≡ true → (a ≡ true) × (b ≡ true)
@@ -57,15 +56,15 @@ pub one_key_there : (names : Label → Option Key) (a b : Label) (key : Key) →
 one_key_there names a b key is = rw is refl
 
 -- a key's hash number is that of each label that leads to it
-pub number_there : (names : Label → Option Key) (label : Label) (key : Key) (hash : ℕ) → number_of names label ≡ Some hash → leads_to names label key ≡ true → hash ≡ fnv_1a key.name
+pub number_there : (names : Label → Option Key) (label : Label) (key : Key) (hash : ℕ) → number_of names label ≡ Some hash → leads_to names label key ≡ true → hash ≡ hash_of key
 number_there names label key hash number leads =
     let is = leads_there names label key leads in
-    same_Some hash (fnv_1a key.name) (sym number ∙ (rw is refl))
+    same_Some hash (hash_of key) (sym number ∙ (rw is refl))
 
 -- what a label leads to, where its name has a number
-pub key_there : (names : Label → Option Key) (label : Label) (hash : ℕ) → number_of names label ≡ Some hash → (key : Key) × (names label ≡ Some key) × (hash ≡ fnv_1a key.name)
+pub key_there : (names : Label → Option Key) (label : Label) (hash : ℕ) → number_of names label ≡ Some hash → (key : Key) × (names label ≡ Some key) × (hash ≡ hash_of key)
 key_there names label hash number = by (names label) refl number
   where
-    by : (o : Option Key) → names label ≡ o → option_map (λ key. fnv_1a key.name) o ≡ Some hash → (key : Key) × (names label ≡ Some key) × (hash ≡ fnv_1a key.name)
+    by : (o : Option Key) → names label ≡ o → option_map hash_of o ≡ Some hash → (key : Key) × (names label ≡ Some key) × (hash ≡ hash_of key)
     by None is e = absurd cc
-    by (Some key) is e = (key, is, sym (same_Some (fnv_1a key.name) hash e))
+    by (Some key) is e = (key, is, sym (same_Some (hash_of key) hash e))

@@ -4,7 +4,6 @@ use Rattle.std.specs.Prelude.{All, AllPairs, Contains, IsSomeAnd, slice_get}
 use Rattle.std.specs.List.{flat_map}
 use Rattle.std.specs.Option.{is_some, option_and_then, option_map, option_map_or, option_or}
 use Rattle.std.proofs.lemmas.Option.{same_Some}
-use Rattle.link_names.specs.NameHash.{fnv_1a}
 use Rattle.link_buckets.specs.declared.bucket.Bucket.{Bucket}
 use Rattle.link_buckets.specs.declared.buckets.Buckets.{Buckets}
 use Rattle.link_buckets.specs.declared.head.Head.{Head}
@@ -12,7 +11,7 @@ use Rattle.link_buckets.specs.declared.label.Label.{Label}
 use Rattle.link_buckets.specs.Bucket.{heads_in}
 use Rattle.link_buckets.specs.Buckets.{AreKeyed, all_heads, buckets_in, mapped_at}
 use Rattle.link_buckets.specs.Heads.{head_of, ids_of, is_head, is_used, mapped_labels, mapped_of}
-use Rattle.link_buckets.specs.Keys.{Key, leads_to}
+use Rattle.link_buckets.specs.Keys.{Key, leads_to, hash_of}
 use Rattle.link_buckets.proofs.Changes.{find_passes}
 use Rattle.link_buckets.proofs.Keys.{and-both, key_itself, leads_from, leads_there}
 use Rattle.link_buckets.proofs.Made.{all_made, in_one_of, made_of, one_made, pairs_made}
@@ -65,7 +64,7 @@ one_head names bs i j g h keyed at_i at_j used_g used_h same =
     let of_g = head_alone names (heads_in p.1) p.2 g (keyed.keyed p.0 p.1 p.3) p.4 used_g in
     let of_h = head_alone names (heads_in q.1) q.2 h (keyed.keyed q.0 q.1 q.3) q.4 used_h in
     let one_key : of_h.0 ≡ of_g.0 = same_Some of_h.0 of_g.0 (sym of_h.1 ∙ sym same ∙ of_g.1) in
-    let hash : h.hash ≡ g.hash = of_h.2 ∙ ap (λ (key : Key). fnv_1a key.name) one_key ∙ sym of_g.2 in
+    let hash : h.hash ≡ g.hash = of_h.2 ∙ ap hash_of one_key ∙ sym of_g.2 in
     let bucket : q.0 ≡ p.0 = sym (settled_head bs q.0 q.1 q.2 h (keyed.settled q.0 q.1 q.3) q.4) ∙ ap (λ n. n % length (buckets_in bs)) hash ∙ settled_head bs p.0 p.1 p.2 g (keyed.settled p.0 p.1 p.3) p.4 in
     let same_bucket : q.1 ≡ p.1 = same_Some q.1 p.1 (sym q.3 ∙ ap (slice_get (buckets_in bs)) bucket ∙ p.3) in
     let there : slice_get (heads_in p.1) q.2 ≡ Some h = subst (λ (b : Bucket). slice_get (heads_in b) q.2 ≡ Some h) same_bucket q.4 in

@@ -3,7 +3,6 @@ use Rattle.std.proofs.Common.{◌≡◌, ◌∙◌, ℕ, true, false, List, [], 
 use Rattle.std.specs.Prelude.{slice_get}
 use Rattle.std.specs.Option.{option_and_then, option_map, option_map_or}
 use Rattle.std.proofs.lemmas.Option.{same_Some}
-use Rattle.link_names.specs.NameHash.{fnv_1a}
 use Rattle.link_buckets.specs.declared.bucket.Bucket.{Bucket}
 use Rattle.link_buckets.specs.declared.buckets.Buckets.{Buckets}
 use Rattle.link_buckets.specs.declared.head.Head.{Head}
@@ -11,7 +10,7 @@ use Rattle.link_buckets.specs.declared.label.Label.{Label}
 use Rattle.link_buckets.specs.Bucket.{definitions_in, heads_in, label_in, overridden_in}
 use Rattle.link_buckets.specs.Buckets.{AreKeyed, asked_of, buckets_in, definitions_at, label_at, overridden_at}
 use Rattle.link_buckets.specs.Heads.{HaveKeys, head_of, ids_of, is_head, is_used}
-use Rattle.link_buckets.specs.Keys.{Extends, Key, have_one_key, leads_to, same_key}
+use Rattle.link_buckets.specs.Keys.{Extends, Key, have_one_key, leads_to, same_key, hash_of}
 use Rattle.link_buckets.proofs.Keys.{and-both, leads_there}
 use Rattle.link_buckets.proofs.Changes.{find_passes}
 use Rattle.link_buckets.proofs.Growing.{labels_kept, same_found, same_head, same_asked}
@@ -42,7 +41,7 @@ leads_back fewer names before after more keyed_before keyed_after labels place b
 -- heads whose labels lead where they led
 keys_alike : (old new : Label → Option Key) (heads : List Head) → ((k : ℕ) (h : Head) → slice_get heads k ≡ Some h → is_used h ≡ true → new h.label ≡ old h.label) → HaveKeys old heads → HaveKeys new heads
 keys_alike old new heads same have = record {
-  numbered = λ k h is used. ap (option_map (λ (key : Key). fnv_1a key.name)) (same k h is used) ∙ have.numbered k h is used;
+  numbered = λ k h is used. ap (option_map hash_of) (same k h is used) ∙ have.numbered k h is used;
   apart = λ a b g h at_a at_b used one.
       let both = and-both (is_used h) (have_one_key new h.label g.label) one in
       let first : have_one_key new h.label g.label ≡ option_map_or (leads_to new h.label) (old g.label) false = ap (λ (o : Option Key). option_map_or (leads_to new h.label) o false) (same a g at_a used) in

@@ -5,12 +5,11 @@ use Rattle.std.specs.Option.{is_some, option_map_or, option_or}
 use Rattle.std.proofs.lemmas.Bool.{cases_eq}
 use Rattle.std.proofs.lemmas.List.Elements.{All-push}
 use Rattle.std.proofs.lemmas.Option.{same_Some}
-use Rattle.link_names.specs.NameHash.{fnv_1a}
 use Rattle.link_buckets.specs.declared.bucket.Bucket.{Bucket}
 use Rattle.link_buckets.specs.Bucket.{definitions_in, heads_in, label_in, mapped_in, overridden_in, IsKeyed, hashes_in}
 use Rattle.link_buckets.specs.Buckets.{asked_of}
 use Rattle.link_buckets.specs.declared.label.Label.{Label}
-use Rattle.link_buckets.specs.Keys.{Key}
+use Rattle.link_buckets.specs.Keys.{Key, hash_of}
 use Rattle.link_buckets.proofs.Changes.{labels_stay, labelled_in, get-set_cases}
 
 -- an item that was set
@@ -28,12 +27,12 @@ get-set_other (z ∷ zs) (suc i) zero y ne = refl
 get-set_other (z ∷ zs) (suc i) (suc j) y ne = get-set_other zs i j y (λ e. ne (ap suc e))
 
 -- what a changed bucket says reaches the buckets, where the keys that change have its hash number
-pub asked_of-set : {X : Type 0} (read : Bucket → Key → X) (none : X) (bs : List Bucket) (hash i : ℕ) (b c : Bucket) (test : Key → Bool) (f : X → X) → i ≡ hash % length bs → slice_get bs i ≡ Some b → ((asked : Key) → test asked ≡ true → fnv_1a asked.name ≡ hash)
+pub asked_of-set : {X : Type 0} (read : Bucket → Key → X) (none : X) (bs : List Bucket) (hash i : ℕ) (b c : Bucket) (test : Key → Bool) (f : X → X) → i ≡ hash % length bs → slice_get bs i ≡ Some b → ((asked : Key) → test asked ≡ true → hash_of asked ≡ hash)
     → ((asked : Key) → read c asked ≡ (if test asked then f (read b asked) else read b asked))
     → (asked : Key) → asked_of read none (set bs i c) asked ≡ (if test asked then f (asked_of read none bs asked) else asked_of read none bs asked)
 asked_of-set {X} read none bs hash i b c test f at is only change asked =
-    let j = fnv_1a asked.name % length bs in
-    let len : fnv_1a asked.name % length (set bs i c) ≡ j = ap (λ n. fnv_1a asked.name % n) (length-set bs i c) in
+    let j = hash_of asked % length bs in
+    let len : hash_of asked % length (set bs i c) ≡ j = ap (λ n. hash_of asked % n) (length-set bs i c) in
     ⊎_elim
     (λ same.
     let new : slice_get (set bs i c) j ≡ Some c = rw same (get-set_same bs i b c is) in
@@ -52,8 +51,8 @@ asked_of-set {X} read none bs hash i b c test f at is only change asked =
 -- what a changed bucket leaves, the buckets leave
 pub asked_of-same : {X : Type 0} (read : Bucket → Key → X) (none : X) (bs : List Bucket) (i : ℕ) (b c : Bucket) → slice_get bs i ≡ Some b → ((asked : Key) → read c asked ≡ read b asked) → (asked : Key) → asked_of read none (set bs i c) asked ≡ asked_of read none bs asked
 asked_of-same {X} read none bs i b c is same asked =
-    let j = fnv_1a asked.name % length bs in
-    let len : fnv_1a asked.name % length (set bs i c) ≡ j = ap (λ n. fnv_1a asked.name % n) (length-set bs i c) in
+    let j = hash_of asked % length bs in
+    let len : hash_of asked % length (set bs i c) ≡ j = ap (λ n. hash_of asked % n) (length-set bs i c) in
     ⊎_elim
     (λ e.
     let new : slice_get (set bs i c) j ≡ Some c = rw e (get-set_same bs i b c is) in
@@ -65,9 +64,9 @@ asked_of-same {X} read none bs i b c is same asked =
     (cases_eq j i)
 
 -- what the bucket of a key says is what the buckets say
-pub asked_here : {X : Type 0} (read : Bucket → Key → X) (none : X) (bs : List Bucket) (hash i : ℕ) (b : Bucket) (asked : Key) → i ≡ hash % length bs → slice_get bs i ≡ Some b → fnv_1a asked.name ≡ hash → asked_of read none bs asked ≡ read b asked
+pub asked_here : {X : Type 0} (read : Bucket → Key → X) (none : X) (bs : List Bucket) (hash i : ℕ) (b : Bucket) (asked : Key) → i ≡ hash % length bs → slice_get bs i ≡ Some b → hash_of asked ≡ hash → asked_of read none bs asked ≡ read b asked
 asked_here read none bs hash i b asked at is there =
-    let found : slice_get bs (fnv_1a asked.name % length bs) ≡ Some b = ap (λ n. slice_get bs (n % length bs)) there ∙ ap (slice_get bs) (sym at) ∙ is in
+    let found : slice_get bs (hash_of asked % length bs) ≡ Some b = ap (λ n. slice_get bs (n % length bs)) there ∙ ap (slice_get bs) (sym at) ∙ is in
     rw found refl
 
 -- ---- labels
@@ -77,8 +76,8 @@ pub label_at-set : (names : Label → Option Key) (bs : List Bucket) (i : ℕ) (
     → (asked : Key) → asked_of (label_in names) None (set bs i c) asked
     ≡ (if is_some (option_or (asked_of (overridden_in names) None (set bs i c) asked) (slice_get (asked_of (definitions_in names) [] (set bs i c) asked) 0)) then asked_of (label_in names) None bs asked else None)
 label_at-set names bs i b c is left asked =
-    let j = fnv_1a asked.name % length bs in
-    let len : fnv_1a asked.name % length (set bs i c) ≡ j = ap (λ n. fnv_1a asked.name % n) (length-set bs i c) in
+    let j = hash_of asked % length bs in
+    let len : hash_of asked % length (set bs i c) ≡ j = ap (λ n. hash_of asked % n) (length-set bs i c) in
     ⊎_elim
     (λ same.
     let new : slice_get (set bs i c) j ≡ Some c = rw same (get-set_same bs i b c is) in
@@ -97,7 +96,7 @@ label_at-set names bs i b c is left asked =
 -- a key has a label exactly where it is mapped to something
 pub labelled_at : (names : Label → Option Key) (bs : List Bucket) (asked : Key)
     → is_some (asked_of (label_in names) None bs asked) ≡ is_some (option_or (asked_of (overridden_in names) None bs asked) (slice_get (asked_of (definitions_in names) [] bs asked) 0))
-labelled_at names bs asked = by (slice_get bs (fnv_1a asked.name % length bs))
+labelled_at names bs asked = by (slice_get bs (hash_of asked % length bs))
   where
     by : (o : Option Bucket) → is_some (option_map_or (λ x. label_in names x asked) o None) ≡ is_some (option_or (option_map_or (λ x. overridden_in names x asked) o None) (slice_get (option_map_or (λ x. definitions_in names x asked) o []) 0))
     by None = refl

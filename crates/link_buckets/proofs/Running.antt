@@ -6,7 +6,6 @@ use Rattle.std.proofs.lemmas.List.{append-nil, length-append, length-map, length
 use Rattle.std.proofs.lemmas.List.Elements.{All-push, filter-append}
 use Rattle.std.proofs.lemmas.List.Folds.{find-append}
 use Rattle.std.proofs.lemmas.Option.{same_Some, slice_get-map, slice_get_within}
-use Rattle.link_names.specs.NameHash.{fnv_1a}
 use Rattle.link_buckets.specs.declared.bucket.Bucket.{Bucket}
 use Rattle.link_buckets.specs.declared.definition.Definition.{Definition}
 use Rattle.link_buckets.specs.declared.head.Head.{Head}
@@ -14,7 +13,7 @@ use Rattle.link_buckets.specs.declared.label.Label.{Label}
 use Rattle.link_buckets.specs.Bucket.{IsKeyed, definitions_in, hashes_in, heads_in, label_in, mapped_in, overridden_in}
 use Rattle.link_buckets.specs.Buckets.{first_label, ids_with}
 use Rattle.link_buckets.specs.Heads.{HaveKeys, hashes_of, head_of, ids_of, without_last}
-use Rattle.link_buckets.specs.Keys.{Key, leads_to, number_of}
+use Rattle.link_buckets.specs.Keys.{Key, leads_to, number_of, hash_of}
 use Rattle.link_buckets.specs.Runs.{AreGrown, AreOwn, AreTaken, IsGrown, IsOwn, IsTaken}
 use Rattle.link_buckets.proofs.Changes.{labelled_in, labels_stay}
 use Rattle.link_buckets.proofs.Keys.{number_there}
@@ -118,7 +117,7 @@ grown_both names count place xs ys a b c first second = record {
 }
 
 -- a key's bucket is that of the hash number of each label that leads to it
-leads_elsewhere : (names : Label → Option Key) (count place hash : ℕ) (label : Label) (asked : Key) → number_of names label ≡ Some hash → (hash % count ≡ place → ⊥) → fnv_1a asked.name % count ≡ place → leads_to names label asked ≡ false
+leads_elsewhere : (names : Label → Option Key) (count place hash : ℕ) (label : Label) (asked : Key) → number_of names label ≡ Some hash → (hash % count ≡ place → ⊥) → hash_of asked % count ≡ place → leads_to names label asked ≡ false
 leads_elsewhere names count place hash label asked number apart at = fails (leads_to names label asked) (λ leads. apart (ap (λ (n : ℕ). n % count) (number_there names label asked hash number leads) ∙ at))
   where
     fails : (t : Bool) → (t ≡ true → ⊥) → t ≡ false
@@ -265,7 +264,7 @@ grown_back names count place xs a b c grown taken = record {
       ∙ sym (or_none (label_in names a asked));
 }
   where
-    ids : (asked : Key) → fnv_1a asked.name % count ≡ place → definitions_in names c asked ≡ definitions_in names a asked
+    ids : (asked : Key) → hash_of asked % count ≡ place → definitions_in names c asked ≡ definitions_in names a asked
     ids asked at = taken_back (definitions_in names a asked) (ids_with names xs asked) (definitions_in names b asked) (definitions_in names c asked) (grown.definitions asked at) (taken.definitions asked at)
 
     over : (asked : Key) → overridden_in names c asked ≡ overridden_in names a asked

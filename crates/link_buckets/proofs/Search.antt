@@ -5,12 +5,11 @@ use Rattle.std.specs.Option.{option_map, option_map_or}
 use Rattle.std.proofs.Math.Nat.{eq-or-lt_of_le}
 use Rattle.std.proofs.lemmas.List.{length-map}
 use Rattle.std.proofs.lemmas.Option.{same_Some, slice_get-map, slice_get_within}
-use Rattle.link_names.specs.NameHash.{fnv_1a}
 use Rattle.link_buckets.specs.declared.head.Head.{Head}
 use Rattle.link_buckets.specs.declared.label.Label.{Label}
 use Rattle.link_buckets.specs.Chains.{IsLast, slot_of}
 use Rattle.link_buckets.specs.Heads.{HaveKeys, hashes_of, is_head, is_labelled, is_used}
-use Rattle.link_buckets.specs.Keys.{Key, leads_to, number_of}
+use Rattle.link_buckets.specs.Keys.{Key, leads_to, number_of, hash_of}
 use Rattle.link_buckets.specs.Places.{place_from}
 use Rattle.link_buckets.proofs.Keys.{and-both, leads_there, number_there, key_there, one_key_there}
 
@@ -128,7 +127,7 @@ walk_found p heads place alone passes = by (slice_get heads place) refl
 -- ---- keys
 
 -- only heads with the hash number of a key lead to it
-pub named_only : (names : Label → Option Key) (heads : List Head) (key : Key) (n : ℕ) → HaveKeys names heads → n ≡ fnv_1a key.name → IsOnly (is_head names key) heads n
+pub named_only : (names : Label → Option Key) (heads : List Head) (key : Key) (n : ℕ) → HaveKeys names heads → n ≡ hash_of key → IsOnly (is_head names key) heads n
 named_only names heads key n have number k h is head =
     let both = and-both (is_used h) (leads_to names h.label key) head in
     number_there names h.label key h.hash (have.numbered k h is both.0) both.1 ∙ sym number

@@ -4,7 +4,6 @@ use Rattle.std.specs.Prelude.{All, slice_get}
 use Rattle.std.specs.Option.{option_and_then, option_map, option_map_or}
 use Rattle.std.proofs.lemmas.List.{length-map, get_or-map}
 use Rattle.std.proofs.lemmas.Option.{same_Some, slice_get_within, get_or_from_slice_get}
-use Rattle.link_names.specs.NameHash.{fnv_1a}
 use Rattle.link_buckets.specs.declared.bucket.Bucket.{Bucket}
 use Rattle.link_buckets.specs.declared.buckets.Buckets.{Buckets}
 use Rattle.link_buckets.specs.declared.head.Head.{Head}
@@ -12,7 +11,7 @@ use Rattle.link_buckets.specs.declared.label.Label.{Label}
 use Rattle.link_buckets.specs.Bucket.{definitions_in, hashes_in, heads_in, label_in, overridden_in}
 use Rattle.link_buckets.specs.Buckets.{AreKeyed, buckets_in, definitions_at, label_at, overridden_at}
 use Rattle.link_buckets.specs.Heads.{HaveKeys, hashes_of, head_of, ids_of, is_head, is_used}
-use Rattle.link_buckets.specs.Keys.{Key, leads_to}
+use Rattle.link_buckets.specs.Keys.{Key, leads_to, hash_of}
 use Rattle.link_buckets.proofs.Keys.{key_itself, key_there, leads_from}
 use Rattle.link_buckets.proofs.Search.{labelled_head}
 use Rattle.link_buckets.proofs.Rounds.{asked_here}
@@ -29,7 +28,7 @@ found_alone {A} p (y ∷ xs) (suc i) x is px alone = by (p y) refl (found_alone 
 
 -- a head in use is the one of its key
 pub head_alone : (names : Label → Option Key) (heads : List Head) (at : ℕ) (h : Head) → HaveKeys names heads → slice_get heads at ≡ Some h → is_used h ≡ true
-    → (key : Key) × (names h.label ≡ Some key) × (h.hash ≡ fnv_1a key.name) × (head_of names heads key ≡ Some h)
+    → (key : Key) × (names h.label ≡ Some key) × (h.hash ≡ hash_of key) × (head_of names heads key ≡ Some h)
 head_alone names heads at h have is_h used =
     let there = key_there names h.label h.hash (have.numbered at h is_h used) in
     let key = there.0 in

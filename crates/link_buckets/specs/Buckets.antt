@@ -2,13 +2,12 @@
 use Rattle.std.specs.Prelude.{◌≡◌, ℕ, ◌%◌, List, [], All, Option, None, Some, filter, find, length, map, slice_get}
 use Rattle.std.specs.List.{flat_map}
 use Rattle.std.specs.Option.{option_map, option_map_or, option_or}
-use Rattle.link_names.specs.NameHash.{fnv_1a}
 use Rattle.link_buckets.specs.declared.label.Label.{Label}
 use Rattle.link_buckets.specs.declared.definition.Definition.{Definition}
 use Rattle.link_buckets.specs.declared.head.Head.{Head}
 use Rattle.link_buckets.specs.declared.bucket.Bucket.{Bucket}
 use Rattle.link_buckets.specs.declared.buckets.Buckets.{Buckets}
-use Rattle.link_buckets.specs.Keys.{Key, leads_to, number_of}
+use Rattle.link_buckets.specs.Keys.{Key, leads_to, number_of, hash_of}
 use Rattle.link_buckets.specs.Bucket.{IsKeyed, definitions_in, hashes_in, label_in, overridden_in, heads_in}
 
 abbrev pub buckets_in : Buckets → List Bucket
@@ -20,7 +19,7 @@ all_heads bs = flat_map heads_in (buckets_in bs)
 
 -- what a key's bucket says: that of its hash number, counted round
 abbrev pub asked_of : {X : Type 0} → (Bucket → Key → X) → X → List Bucket → Key → X
-asked_of read none buckets key = option_map_or (λ b. read b key) (slice_get buckets (fnv_1a key.name % length buckets)) none
+asked_of read none buckets key = option_map_or (λ b. read b key) (slice_get buckets (hash_of key % length buckets)) none
 
 -- the ids of the key's definitions, in order
 abbrev pub definitions_at : (Label → Option Key) → Buckets → Key → List ℕ

@@ -3,7 +3,7 @@ use Rattle.std.specs.Prelude.{◌≡◌, ℕ, List, Bool, false, ◌&&◌, Optio
 use Rattle.std.specs.Option.{option_eq, option_map_or}
 use Rattle.std.specs.Str.{bytes_eq}
 use Rattle.std.specs.Borrow.{Bor}
-use Rattle.link_names.specs.NameHash.{fnv_1a}
+use Rattle.link_names.specs.NameHash.{fnv_1a, fnv_1a_on}
 use Rattle.link_buckets.specs.declared.label.Label.{Label}
 
 -- a name, and its version where it has one
@@ -27,9 +27,13 @@ leads_to names label key = option_map_or (λ own. same_key own key) (names label
 abbrev pub have_one_key : (Label → Option Key) → Label → Label → Bool
 have_one_key names a b = option_map_or (leads_to names a) (names b) false
 
--- the hash number of the name to which the label leads
+-- the hash number of a key: that of its name, which its version carries on
+unfoldable pub hash_of : Key → ℕ
+hash_of key = option_map_or (fnv_1a_on (fnv_1a key.name)) key.version (fnv_1a key.name)
+
+-- the hash number of the key to which the label leads
 abbrev pub number_of : (Label → Option Key) → Label → Option ℕ
-number_of names label = option_map (λ key. fnv_1a key.name) (names label)
+number_of names label = option_map hash_of (names label)
 
 -- the new names are those of the old tables, and more
 abbrev pub Extends : (Label → Option Key) → (Label → Option Key) → Type 0

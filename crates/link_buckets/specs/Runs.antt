@@ -3,11 +3,10 @@ use Rattle.std.specs.Prelude.{◌≡◌, ◌+◌, ◌++◌, ◌%◌, ℕ, All, L
 use Rattle.std.specs.Borrow.{Bor}
 use Rattle.std.specs.List.{flat_map}
 use Rattle.std.specs.Option.{option_or}
-use Rattle.link_names.specs.NameHash.{fnv_1a}
 use Rattle.link_buckets.specs.declared.label.Label.{Label}
 use Rattle.link_buckets.specs.declared.definition.Definition.{Definition}
 use Rattle.link_buckets.specs.declared.bucket.Bucket.{Bucket}
-use Rattle.link_buckets.specs.Keys.{Key}
+use Rattle.link_buckets.specs.Keys.{Key, hash_of}
 use Rattle.link_buckets.specs.Heads.{without_last}
 use Rattle.link_buckets.specs.Bucket.{IsKeyed, definitions_in, hashes_in, label_in, mapped_in, overridden_in}
 use Rattle.link_buckets.specs.Buckets.{first_label, ids_with}
@@ -28,9 +27,9 @@ AreOwn names count first run = (k : ℕ) (b : Bucket) → slice_get run k ≡ So
 -- a bucket before and after these definitions were added: those of its keys stand behind the old ones
 pub record IsGrown (names : Label → Option Key) (count place : ℕ) (added : List Definition) (before after : Bucket) : Type 0 where
   pub own : IsOwn names count place after
-  pub definitions : (asked : Key) → fnv_1a asked.name % count ≡ place → definitions_in names after asked ≡ definitions_in names before asked ++ ids_with names added asked
+  pub definitions : (asked : Key) → hash_of asked % count ≡ place → definitions_in names after asked ≡ definitions_in names before asked ++ ids_with names added asked
   pub overridden : (asked : Key) → overridden_in names after asked ≡ overridden_in names before asked
-  pub labels : (asked : Key) → fnv_1a asked.name % count ≡ place → label_in names after asked ≡ option_or (label_in names before asked) (first_label names added asked)
+  pub labels : (asked : Key) → hash_of asked % count ≡ place → label_in names after asked ≡ option_or (label_in names before asked) (first_label names added asked)
 
 -- a run before and after definitions were added
 pub record AreGrown (names : Label → Option Key) (count first : ℕ) (added : List Definition) (before after : List Bucket) : Type 0 where
@@ -40,9 +39,9 @@ pub record AreGrown (names : Label → Option Key) (count first : ℕ) (added : 
 -- a bucket before and after as many definitions of each of its keys were taken away as there are here
 pub record IsTaken (names : Label → Option Key) (count place : ℕ) (taken : List Definition) (before after : Bucket) : Type 0 where
   pub own : IsOwn names count place after
-  pub definitions : (asked : Key) → fnv_1a asked.name % count ≡ place → definitions_in names after asked ≡ without_last (length (ids_with names taken asked)) (definitions_in names before asked)
+  pub definitions : (asked : Key) → hash_of asked % count ≡ place → definitions_in names after asked ≡ without_last (length (ids_with names taken asked)) (definitions_in names before asked)
   pub overridden : (asked : Key) → overridden_in names after asked ≡ overridden_in names before asked
-  pub labels : (asked : Key) → fnv_1a asked.name % count ≡ place → label_in names after asked ≡ (if is_some (mapped_in names after asked) then label_in names before asked else None)
+  pub labels : (asked : Key) → hash_of asked % count ≡ place → label_in names after asked ≡ (if is_some (mapped_in names after asked) then label_in names before asked else None)
 
 -- a run before and after definitions were taken away
 pub record AreTaken (names : Label → Option Key) (count first : ℕ) (taken : List Definition) (before after : List Bucket) : Type 0 where

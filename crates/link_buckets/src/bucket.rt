@@ -21,9 +21,8 @@ pub struct Bucket {
 impl Bucket {
     ghost use Rattle.std.specs.Prelude.{◌≡◌, ℕ, ◌++◌, [], ◌∷◌, ◌⊎◌, Option, None, Some, is_some, IsTrue, IfOk, OnOk, OnErr, false, length, map, take, slice_get, option_map, if◌then◌else◌};
     ghost use Rattle.std.specs.Option.{option_map_or, option_or};
-    ghost use Rattle.link_names.specs.NameHash.{fnv_1a};
     ghost use Rattle.link_buckets.specs.declared.label.Label.{Label};
-    ghost use Rattle.link_buckets.specs.Keys.{Key, key_of, leads_to, number_of, same_key};
+    ghost use Rattle.link_buckets.specs.Keys.{Key, hash_of, key_of, leads_to, number_of, same_key};
     ghost use Rattle.link_buckets.specs.Heads.{first_alone, head_of, is_head, is_labelled, without_last};
     ghost use Rattle.link_buckets.specs.Places.{place_from};
     ghost use Rattle.link_buckets.specs.Bucket.{IsKeyed, definitions_in, hashes_in, heads_in, label_in, mapped_in, overridden_in};
@@ -68,7 +67,7 @@ impl Bucket {
         version: Option<&[u8]>,
     ) -> bool
         requires keyed { IsKeyed (T.key_at table.now) self.now }
-        requires hashed { hash ≡ fnv_1a name.now }
+        requires hashed { hash ≡ hash_of (key_of name.now version) }
         ensures { result ≡ option_map_or (is_head (T.key_at table.now) (key_of name.now version.entry)) (slice_get (heads_in self.now) place) false }
     {
         match self.heads.get(place) {
@@ -88,7 +87,7 @@ impl Bucket {
         version: Option<&[u8]>,
     ) -> Option<usize>
         requires keyed { IsKeyed (T.key_at table.now) self.now }
-        requires hashed { hash ≡ fnv_1a name.now }
+        requires hashed { hash ≡ hash_of (key_of name.now version) }
         ensures { result ≡ place_from (is_head (T.key_at table.now) (key_of name.now version.entry)) 0 (heads_in self.now) }
     {
         let mut last = self.places.last(hash);
@@ -111,7 +110,7 @@ impl Bucket {
         version: Option<&[u8]>,
     ) -> Option<&Head>
         requires keyed { IsKeyed (T.key_at table.now) self.now }
-        requires hashed { hash ≡ fnv_1a name.now }
+        requires hashed { hash ≡ hash_of (key_of name.now version) }
         ensures { option_map (λ h. h.now) result ≡ head_of (T.key_at table.now) (heads_in self.now) (key_of name.now version.entry) }
     {
         let place = self.place_of(table, hash, name, version)?;
@@ -209,7 +208,7 @@ impl Bucket {
         version: Option<&[u8]>,
     ) -> Option<&Definitions>
         requires keyed { IsKeyed (T.key_at table.now) self.now }
-        requires hashed { hash ≡ fnv_1a name.now }
+        requires hashed { hash ≡ hash_of (key_of name.now version) }
         ensures { option_map_or (λ d. d.now) result [] ≡ definitions_in (T.key_at table.now) self.now (key_of name.now version.entry) }
     {
         self.head_named(table, hash, name, version)?.definitions()
@@ -224,7 +223,7 @@ impl Bucket {
         version: Option<&[u8]>,
     ) -> Option<u32>
         requires keyed { IsKeyed (T.key_at table.now) self.now }
-        requires hashed { hash ≡ fnv_1a name.now }
+        requires hashed { hash ≡ hash_of (key_of name.now version) }
         ensures { result ≡ mapped_in (T.key_at table.now) self.now (key_of name.now version.entry) }
     {
         self.head_named(table, hash, name, version)?.mapped()
@@ -280,7 +279,7 @@ impl Bucket {
         id: u32,
     )
         requires keyed { IsKeyed (T.key_at table.now) self.old }
-        requires hashed { hash ≡ fnv_1a name.now }
+        requires hashed { hash ≡ hash_of (key_of name.now version) }
         requires mapped { IsTrue (is_some (mapped_in (T.key_at table.now) self.old (key_of name.now version))) }
         ensures keyed { IsKeyed (T.key_at table.now) self.new }
         ensures hashes { hashes_in self.new ≡ hashes_in self.old }
@@ -298,7 +297,7 @@ impl Bucket {
     /// Takes away what the name and version is overridden with.
     pub fn restore<T: Names>(&mut self, table: &T, hash: u64, name: &[u8], version: Option<&[u8]>)
         requires keyed { IsKeyed (T.key_at table.now) self.old }
-        requires hashed { hash ≡ fnv_1a name.now }
+        requires hashed { hash ≡ hash_of (key_of name.now version) }
         ensures keyed { IsKeyed (T.key_at table.now) self.new }
         ensures hashes { hashes_in self.new ≡ hashes_in self.old }
         ensures overridden { (asked : Key) → overridden_in (T.key_at table.now) self.new asked
@@ -322,7 +321,7 @@ impl Bucket {
         version: Option<&[u8]>,
     )
         requires keyed { IsKeyed (T.key_at table.now) self.old }
-        requires hashed { hash ≡ fnv_1a name.now }
+        requires hashed { hash ≡ hash_of (key_of name.now version) }
         ensures keyed { IsKeyed (T.key_at table.now) self.new }
         ensures hashes { hashes_in self.new ≡ hashes_in self.old }
         ensures definitions { (asked : Key) → definitions_in (T.key_at table.now) self.new asked

@@ -25,9 +25,8 @@ pub struct Buckets {
 impl Buckets {
     ghost use Rattle.std.specs.Prelude.{◌≡◌, ◌≢◌, ◌++◌, [], ◌∷◌, ◌%◌, ℕ, All, AllPairs, Contains, Option, None, Some, is_some, IsSomeAnd, IsTrue, IfOk, OnOk, OnErr, length, take, if◌then◌else◌};
     ghost use Rattle.std.specs.Option.{option_map_or, option_or};
-    ghost use Rattle.link_names.specs.NameHash.{fnv_1a};
     ghost use Rattle.link_buckets.specs.declared.label.Label.{Label};
-    ghost use Rattle.link_buckets.specs.Keys.{Key, key_of, leads_to, number_of, same_key};
+    ghost use Rattle.link_buckets.specs.Keys.{Key, hash_of, key_of, leads_to, number_of, same_key};
     ghost use Rattle.link_buckets.specs.Heads.{without_last};
     ghost use Rattle.link_buckets.specs.Runs.{joined};
     ghost use Rattle.link_buckets.specs.Buckets.{AreHashed, AreKeyed, buckets_in, definitions_at, first_label, ids_with, label_at, mapped_at, overridden_at};
@@ -107,7 +106,7 @@ impl Buckets {
         version: Option<&[u8]>,
     ) -> Option<&Definitions>
         requires keyed { AreKeyed (T.key_at table.now) self.now }
-        requires hashed { hash ≡ fnv_1a name.now }
+        requires hashed { hash ≡ hash_of (key_of name.now version) }
         ensures { option_map_or (λ d. d.now) result [] ≡ definitions_at (T.key_at table.now) self.now (key_of name.now version.entry) }
     {
         self.buckets[self.place_of(hash)].definitions(table, hash, name, version)
@@ -122,7 +121,7 @@ impl Buckets {
         version: Option<&[u8]>,
     ) -> Option<u32>
         requires keyed { AreKeyed (T.key_at table.now) self.now }
-        requires hashed { hash ≡ fnv_1a name.now }
+        requires hashed { hash ≡ hash_of (key_of name.now version) }
         ensures { result ≡ mapped_at (T.key_at table.now) self.now (key_of name.now version.entry) }
     {
         self.buckets[self.place_of(hash)].mapped(table, hash, name, version)
@@ -163,7 +162,7 @@ impl Buckets {
         id: u32,
     )
         requires keyed { AreKeyed (T.key_at table.now) self.old }
-        requires hashed { hash ≡ fnv_1a name.now }
+        requires hashed { hash ≡ hash_of (key_of name.now version) }
         requires mapped { IsTrue (is_some (mapped_at (T.key_at table.now) self.old (key_of name.now version))) }
         ensures keyed { AreKeyed (T.key_at table.now) self.new }
         ensures overridden { (asked : Key) → overridden_at (T.key_at table.now) self.new asked
@@ -179,7 +178,7 @@ impl Buckets {
     /// Takes away what the name and version is overridden with.
     pub fn restore<T: Names>(&mut self, table: &T, hash: u64, name: &[u8], version: Option<&[u8]>)
         requires keyed { AreKeyed (T.key_at table.now) self.old }
-        requires hashed { hash ≡ fnv_1a name.now }
+        requires hashed { hash ≡ hash_of (key_of name.now version) }
         ensures keyed { AreKeyed (T.key_at table.now) self.new }
         ensures overridden { (asked : Key) → overridden_at (T.key_at table.now) self.new asked
             ≡ (if same_key (key_of name.now version.entry) asked then None else overridden_at (T.key_at table.now) self.old asked) }
@@ -201,7 +200,7 @@ impl Buckets {
         version: Option<&[u8]>,
     )
         requires keyed { AreKeyed (T.key_at table.now) self.old }
-        requires hashed { hash ≡ fnv_1a name.now }
+        requires hashed { hash ≡ hash_of (key_of name.now version) }
         ensures keyed { AreKeyed (T.key_at table.now) self.new }
         ensures definitions { (asked : Key) → definitions_at (T.key_at table.now) self.new asked
             ≡ (if same_key (key_of name.now version.entry) asked then without_last 1 (definitions_at (T.key_at table.now) self.old asked) else definitions_at (T.key_at table.now) self.old asked) }

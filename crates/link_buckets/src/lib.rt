@@ -5,6 +5,7 @@
 mod bucket;
 mod buckets;
 mod definition;
+mod hashing;
 mod head;
 mod label;
 mod laws;
@@ -18,6 +19,7 @@ mod slots;
 pub use bucket::Bucket;
 pub use buckets::Buckets;
 pub use definition::Definition;
+pub use hashing::key_hash;
 pub use head::{Definitions, Head};
 pub use label::{Label, Names};
 pub use laws::{

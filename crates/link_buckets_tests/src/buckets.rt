@@ -7,8 +7,8 @@ ghost use Rattle.link_buckets.specs.declared.label.Label.TheVariants.{Plain, Ver
 ghost use Rattle.link_buckets.specs.Buckets.{AreKeyed, AreHashed};
 ghost use Rattle.link_buckets.specs.Keys.{key_of, number_of, same_key};
 
-use link_buckets::{Buckets, Definition, Definitions, Label, Names};
-use link_names::{Name, hash_bytes};
+use link_buckets::{Buckets, Definition, Definitions, Label, Names, key_hash};
+use link_names::Name;
 use std::alloc::{AllocError, Global};
 use std::test::Fail;
 use std::thread::Threads;
@@ -76,7 +76,8 @@ impl Texts {
         ensures { result ≡ number_of (⟦<Texts as Names>⟧.key_at self.now) label }
     {
         let entry = self.entries.get(number_in(label))?;
-        Some(hash_bytes(entry.name.as_slice()))
+        let version = entry.version.as_ref().map(|version| version.as_slice());
+        Some(key_hash(entry.name.as_slice(), version))
     }
 }
 
@@ -139,7 +140,7 @@ fn shown(
     };
     let name = entry.name.as_slice();
     let version = entry.version.as_ref().map(|version| version.as_slice());
-    let hash = hash_bytes(name);
+    let hash = key_hash(name, version);
     if let Some(definitions) = buckets.definitions(table, hash, name, version) {
         text.push_str(ids_text(alloc, definitions)?.as_str())?;
     }
@@ -252,7 +253,7 @@ fn ends(buckets: &Buckets, table: &Texts, entry: usize) -> Option<(usize, u32, u
     let entry = table.entries.get(entry)?;
     let name = entry.name.as_slice();
     let version = entry.version.as_ref().map(|version| version.as_slice());
-    let definitions = buckets.definitions(table, hash_bytes(name), name, version)?;
+    let definitions = buckets.definitions(table, key_hash(name, version), name, version)?;
     let later = definitions.later();
     Some((later.len(), definitions.first(), *later.last()?))
 }
@@ -324,14 +325,14 @@ fn called(
         }
         Call::Remap => {
             if buckets
-                .mapped(table, hash_bytes(name), name, version)
+                .mapped(table, key_hash(name, version), name, version)
                 .is_some()
             {
-                buckets.remap(table, hash_bytes(name), name, version, id);
+                buckets.remap(table, key_hash(name, version), name, version, id);
             }
         }
-        Call::Restore => buckets.restore(table, hash_bytes(name), name, version),
-        Call::RemoveLast => buckets.remove_last(table, hash_bytes(name), name, version),
+        Call::Restore => buckets.restore(table, key_hash(name, version), name, version),
+        Call::RemoveLast => buckets.remove_last(table, key_hash(name, version), name, version),
         Call::ReleaseLater => buckets.release_later(),
     }
     Ok(())

@@ -28,6 +28,7 @@ bulk_objects members = map (bulk_object members) (range_with_len 0 (members + 1)
 abbrev pub bulk_manifest : ℕ → Manifest
 bulk_manifest members = Elf (record {
   inputs = record { objects = bulk_objects members; scripts = []; stubs = [] };
+  later = [];
   options = default_options;
   scripts = record { version_script = None; export_list = None };
 })

@@ -51,6 +51,7 @@ pub fn bulk_manifest(alloc: Global, members: usize) -> Result<Manifest, AllocErr
     };
     Ok(Manifest::Elf(World {
         inputs,
+        later: Seq::new(alloc),
         options: Options::new(alloc),
         scripts,
     }))

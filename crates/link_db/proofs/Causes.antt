@@ -1,6 +1,6 @@
 -- Why the files of a batch are refused.
 use Rattle.std.proofs.Common.{rules, suc, ◌≡◌, ◌≤◌, ◌==◌, ◌∙◌, ℕ, Bool, false, List, [], ◌∷◌, Option, None, Result, Ok, Err, refl, sym, ap, subst, arith, length, inl, inr}
-use Rattle.std.specs.Prelude.{not}
+use Rattle.std.specs.Prelude.{not, OnOk}
 use Rattle.std.specs.List.{flat_map}
 use Rattle.std.specs.Result.{IsErr, IsErrAnd}
 use Rattle.std.specs.Option.{option_or}
@@ -63,3 +63,8 @@ same-cause {P} options batches groups lent all none_held first scripts given tak
 pub tells-through : (A : Type 0) (cause : Option LinkError) (e : LinkError) (r : Result A LinkError) → IsErr r → IsErrAnd r (λ x. x ≡ e) → TellsCause {A = A} cause (Err e) → TellsCause cause r
 tells-through A cause e (Ok x) is same told = absurd (let wrong = is in cc)
 tells-through A cause e (Err x) is same told = subst (λ (y : LinkError). TellsCause {A = A} cause (Err y)) (sym same) told
+
+-- a refused call does not succeed
+pub refused-not-ok : (A : Type 0) (P : Type 0) (r : Result A LinkError) → IsErr r → OnOk r P
+refused-not-ok A P (Ok x) is = absurd (let wrong = is in cc)
+refused-not-ok A P (Err x) is = tt

@@ -1,13 +1,12 @@
 //! A name, as it is looked up.
 
 ghost use Rattle.std.specs.Prelude.{◌≡◌};
-ghost use Rattle.link_buckets.specs.Keys.{key_of};
-ghost use Rattle.link_names.specs.NameHash.{fnv_1a};
+ghost use Rattle.link_buckets.specs.Keys.{hash_of, key_of};
 
-use link_names::hash_bytes;
+use link_buckets::key_hash;
 use std::marker::Model;
 
-/// A name, with its version where it has one, and the hash number of the name, by which it is found. Mirrors Wild's
+/// A name, with its version where it has one, and the hash number by which it is found. Mirrors Wild's
 /// `PreHashedSymbolName`, but that the bytes are lent. A contract sees the name and the version.
 #[derive(Debug, Drop)]
 pub struct SymbolKey<'a> {
@@ -18,14 +17,13 @@ pub struct SymbolKey<'a> {
 
 impl<'a> Model for SymbolKey<'a> {
     ghost use Rattle.std.specs.Prelude.{◌≡◌};
-    ghost use Rattle.link_buckets.specs.Keys.{Key, key_of};
-    ghost use Rattle.link_names.specs.NameHash.{fnv_1a};
+    ghost use Rattle.link_buckets.specs.Keys.{Key, hash_of, key_of};
 
     ghost Value = { Key };
 
     ghost view = { λ k. key_of k.name.now k.version };
 
-    ghost invariant = { λ k. k.hash ≡ fnv_1a k.name.now };
+    ghost invariant = { λ k. k.hash ≡ hash_of (key_of k.name.now k.version) };
 }
 
 impl<'a> SymbolKey<'a> {
@@ -36,7 +34,7 @@ impl<'a> SymbolKey<'a> {
         SymbolKey {
             name,
             version,
-            hash: hash_bytes(name),
+            hash: key_hash(name, version),
         }
     }
 
@@ -47,9 +45,9 @@ impl<'a> SymbolKey<'a> {
         self.name
     }
 
-    /// The hash number of the name: FNV-1a with 64 bits.
+    /// The hash number of the name, or of the name and version: FNV-1a with 64 bits, which goes on over the version.
     pub fn hash(&self) -> u64
-        ensures { result ≡ fnv_1a self.now.name }
+        ensures { result ≡ hash_of self.now }
     {
         self.hash
     }

@@ -3,10 +3,10 @@
 use crate::database::SymbolDb;
 use crate::key::SymbolKey;
 use crate::picking::pick_unshared;
+use link_buckets::key_hash;
 use link_ids::SymbolId;
 use link_input::Platform;
 use link_mapping::MappedNames;
-use link_names::hash_bytes;
 
 impl<P: Platform> SymbolDb<P> {
     ghost use Rattle.std.specs.Prelude.{◌≡◌, ◌≢◌, ◌<◌, ◌||◌, ℕ, All, AllPairs, Contains, IfSome, Some, length, not};
@@ -54,7 +54,7 @@ impl<P: Platform> SymbolDb<P> {
         ensures value { result ≡ mapping_of (seen self.now).mapping name.now }
         ensures within { IfSome result (λ id. id < length (symbol_names (seen self.now))) }
     {
-        self.mapping.mapped(hash_bytes(name), name, None)
+        self.mapping.mapped(key_hash(name, None), name, None)
     }
 
     /// Each name that is mapped to a symbol, with the symbol: names without a version alone, in no promised order. Mirrors Wild's

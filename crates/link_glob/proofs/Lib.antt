@@ -6,3 +6,8 @@ pub mod Grammatical
 pub mod PatternKind
 pub mod Test
 pub mod Unescaping
+pub mod LastOf
+pub mod Turned
+pub mod Keys
+pub mod Chains
+pub mod Copied

@@ -33,7 +33,7 @@ end_is p (suc n) [] e = e
 end_is p zero (c ∷ name) e = or_left (p (c ∷ name)) (some_end p name) e
 end_is p (suc n) (c ∷ name) e = or_right (p (c ∷ name)) (some_end p name) (end_is p n name e)
 
-means : (pattern : List GlobToken) (name : List ℕ) → IsTrue (glob_matches pattern name) → GlobMatches pattern name
+pub means : (pattern : List GlobToken) (name : List ℕ) → IsTrue (glob_matches pattern name) → GlobMatches pattern name
 means [] [] e = refl
 means [] (c ∷ name) e = absurd cc
 means (any ∷ rest) name e = let k = end_means (λ n. glob_matches rest n) name e in (k.0, means rest (drop k.0 name) k.1)

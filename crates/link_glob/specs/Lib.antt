@@ -5,3 +5,5 @@ pub mod Grammar
 pub mod Reading
 pub mod Compile
 pub mod Laws
+pub mod GlobList
+pub mod GlobKey

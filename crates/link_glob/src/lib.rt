@@ -8,6 +8,9 @@
 mod analyze;
 mod compile;
 mod fault;
+mod glob_index;
+mod glob_key;
+mod glob_list;
 mod laws;
 mod matching;
 mod pattern;
@@ -15,5 +18,6 @@ mod pattern;
 pub use analyze::{GlobPatternType, analyze_glob_pattern, unescape_pattern};
 pub use compile::{compile_glob_pattern, compile_macho_glob_pattern};
 pub use fault::GlobError;
+pub use glob_list::GlobList;
 pub use laws::{escaping_law, examples_law, grammar_law};
 pub use pattern::Pattern;

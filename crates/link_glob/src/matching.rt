@@ -1,6 +1,6 @@
 //! Whether a glob fits a name, without memory.
 
-ghost use Rattle.std.specs.Prelude.{◌≡◌, ◌↔◌, ◌∷◌, [], IsTrue};
+ghost use Rattle.std.specs.Prelude.{◌≡◌, ◌↔◌, ◌∷◌, [], IsTrue, reverse};
 ghost use Rattle.std.specs.Option.{MatchOption};
 ghost use Rattle.std.specs.Str.{chars};
 ghost use Rattle.link_glob.specs.Glob.{any, GlobMatches, takes, is_in_ranges, view_token, views};
@@ -15,6 +15,15 @@ pub(crate) fn split_first_char(text: &str) -> Option<(char, &str)>
     let mut rest = text.chars();
     let first = rest.next()?;
     Some((first, rest.as_str()))
+}
+
+/// The last character, and the text before it.
+pub(crate) fn split_last_char(text: &str) -> Option<(char, &str)>
+    ensures { MatchOption result (reverse (chars text.now) ≡ []) (λ r. reverse (chars text.now) ≡ r.0 ∷ reverse (chars r.1.now)) }
+{
+    let mut rest = text.chars();
+    let last = rest.next_back()?;
+    Some((last, rest.as_str()))
 }
 
 /// Whether the character is in some range.

@@ -1,9 +1,12 @@
 //! A compiled glob.
 
-ghost use Rattle.std.specs.Prelude.{◌↔◌, List, IsTrue};
+ghost use Rattle.std.specs.Prelude.{◌≡◌, ◌↔◌, List, IsTrue};
+ghost use Rattle.link_glob.specs.Glob.{view_token};
 ghost use Rattle.std.specs.Str.{chars};
 
+use crate::glob_key::key_of;
 use crate::matching::tokens_match;
+use std::alloc::AllocError;
 
 /// The characters from `first` to `last`, both included; none where `last` is less.
 #[derive(Clone, Copy, Debug, PartialEq, Eq)]
@@ -32,6 +35,22 @@ pub enum Token {
     Class(Class),
 }
 
+impl Clone for Token {
+    ghost is_clone = { λ x y. view_token y ≡ view_token x };
+
+    fn clone(&self) -> Result<Token, AllocError> {
+        match self {
+            Token::Literal(c) => Ok(Token::Literal(*c)),
+            Token::One => Ok(Token::One),
+            Token::Any => Ok(Token::Any),
+            Token::Class(class) => Ok(Token::Class(Class {
+                negated: class.negated,
+                ranges: class.ranges.clone()?,
+            })),
+        }
+    }
+}
+
 /// A compiled glob. Contracts see it as the list of its tokens.
 #[derive(Debug, Drop)]
 pub struct Pattern {
@@ -47,15 +66,32 @@ impl std::marker::Model for Pattern {
     ghost view = { λ p. views p.tokens.items };
 }
 
+impl Clone for Pattern {
+    ghost is_clone = { λ x y. y ≡ x };
+
+    fn clone(&self) -> Result<Pattern, AllocError> {
+        Ok(Pattern {
+            tokens: self.tokens.clone()?,
+        })
+    }
+}
+
 impl Pattern {
-    ghost use Rattle.std.specs.Prelude.{◌≡◌};
     ghost use Rattle.link_glob.specs.Glob.{GlobMatches, does_match, views};
+    ghost use Rattle.link_glob.specs.GlobKey.{key_of};
 
     /// The pattern of these tokens.
     pub(crate) fn from_tokens(tokens: Vec<Token>) -> Pattern
         ensures { result ≡ views tokens.items }
     {
         Pattern { tokens }
+    }
+
+    /// Its key in an index.
+    pub(crate) fn key(&self) -> u64
+        ensures { result ≡ key_of self.now }
+    {
+        key_of(&self.tokens)
     }
 
     /// Whether the pattern fits the whole name. Case counts, and `/` and `.` are characters like others.

@@ -70,7 +70,8 @@ impl<P: Platform> SequencedInputObject<P> {
         requires inside { IsInside self.now.symbol_id_range id }
         ensures { option_map (λ e. e.name) (slice_get self.now.parsed.object.symbols (offset_in self.now.symbol_id_range id)) ≡ Some result }
     {
-        self.symbol_row(id).name()
+        let place = id.to_offset(self.symbol_id_range);
+        self.parsed.object().symbol_name_at(place)
     }
 
     /// The version of a symbol of the object, where it has one.

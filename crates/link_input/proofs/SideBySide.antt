@@ -159,3 +159,34 @@ row_of c i span version e at name at_version is_version d b w k z p =
     (slice_get-map (bytes_at c.block.items) c.names.items i ∙ ap (option_map (bytes_at c.block.items)) at ∙ ap Some (sym name))
     (slice_get-map (option_map (bytes_at c.block.items)) c.versions.items i ∙ ap (option_map (option_map (bytes_at c.block.items))) at_version ∙ ap Some (sym is_version))
     d b w k z p
+
+-- something stands at each place
+there : {A : Type 0} (xs : List A) (i : ℕ) → i < length xs → (x : A) × (slice_get xs i ≡ Some x)
+there [] i lt = absurd (omega arith)
+there (x ∷ xs) zero lt = (x, refl)
+there (x ∷ xs) (suc i) lt = there xs i (omega (arith, lt))
+
+-- the name of the entry at a place is what the first column has there
+pub name_of : (c : Inside) (es : List SymbolEntry) (i : ℕ) (span : Span) → entries_of c ≡ es → AreColumns c → i < length es → slice_get c.names.items i ≡ Some span
+    → option_map (λ (e : SymbolEntry). e.name) (slice_get es i) ≡ Some (bytes_at c.block.items span)
+name_of c es i span view are within at =
+    let h = has_place c es i view are within in
+    let version = there c.versions.items i h.versions in
+    let is_default = there c.defaults.items i h.defaults in
+    let binding = there c.bindings.items i h.bindings in
+    let visibility = there c.visibilities.items i h.visibilities in
+    let kind = there c.kinds.items i h.kinds in
+    let size = there c.sizes.items i h.sizes in
+    let place = there c.places.items i h.places in
+    let e : SymbolEntry = record {
+      name = bytes_at c.block.items span;
+      version = option_map (bytes_at c.block.items) version.0;
+      is_default = is_default.0;
+      binding = binding.0;
+      visibility = visibility.0;
+      kind = kind.0;
+      size = size.0;
+      place = place.0;
+    } in
+    subst (λ (xs : List SymbolEntry). option_map (λ (x : SymbolEntry). x.name) (slice_get xs i) ≡ Some (bytes_at c.block.items span)) view
+    (ap (option_map (λ (x : SymbolEntry). x.name)) (row_of c i span version.0 e at refl version.1 refl is_default.1 binding.1 visibility.1 kind.1 size.1 place.1))

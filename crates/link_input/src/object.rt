@@ -12,7 +12,7 @@ use crate::symbol_entry::SymbolEntry;
 use crate::symbol_row::SymbolRow;
 use crate::table_error::TableError;
 use link_ids::{SectionIndex, SymbolIndex};
-use link_names::{Name, Seq};
+use link_names::{Name, NameView, Seq};
 use std::alloc::Global;
 use std::marker::{Model, PhantomData};
 
@@ -163,6 +163,14 @@ impl<P: Platform> InputObject<P> {
         ensures { slice_get self.now.symbols place ≡ Some result }
     {
         self.symbols.row(place)
+    }
+
+    /// The name of the entry at this place of its symbol table. `num_symbols` is the test.
+    pub fn symbol_name_at(&self, place: usize) -> NameView<'_>
+        requires { place < length self.now.symbols }
+        ensures { option_map (λ symbol. symbol.name) (slice_get self.now.symbols place) ≡ Some result }
+    {
+        NameView::new(self.symbols.name(place))
     }
 
     /// The section that the symbol at this place stands in, one of the object's. `num_symbols` is the test.

@@ -1,6 +1,6 @@
 //! A symbol table in columns.
 
-ghost use Rattle.std.specs.Prelude.{◌≡◌, ◌<◌, Some, IfOk, length, map, slice_get};
+ghost use Rattle.std.specs.Prelude.{◌≡◌, ◌<◌, Some, IfOk, length, map, option_map, slice_get};
 
 use crate::name_block::{Span, bytes_at, put_names, put_versions, version_at};
 use crate::symbol_entry::{Place, SymbolBinding, SymbolEntry, SymbolKind};
@@ -114,6 +114,14 @@ impl SymbolColumns {
         ensures { result ≡ length self.now }
     {
         self.names.len()
+    }
+
+    /// The name of the entry at a place, for who looks names up: a whole row reads from each column. `len` is the test.
+    pub fn name(&self, index: usize) -> &[u8]
+        requires { index < length self.now }
+        ensures { option_map (λ e. e.name) (slice_get self.now index) ≡ Some result.now }
+    {
+        bytes_at(self.block.as_slice(), field_at(&self.names, index))
     }
 
     /// The entry at a place. `len` is the test.

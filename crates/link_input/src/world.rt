@@ -50,7 +50,10 @@ pub struct Scripts {
 /// All that a link on a platform is given.
 #[derive(Drop)]
 pub struct World<P: Platform> {
+    /// The files of the first batch.
     pub inputs: Inputs<P>,
+    /// The files of the batches that come behind it, one after another.
+    pub later: Seq<Inputs<P>>,
     pub options: Options,
     pub scripts: Scripts,
 }

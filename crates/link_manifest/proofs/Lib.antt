@@ -1,4 +1,5 @@
 mod Keys
 mod OneKey
 mod PassingTables
+mod PassingBatches
 mod Distinct

@@ -12,6 +12,7 @@ use Rattle.link_input.specs.declared.world.StubLibrary.{StubLibrary}
 use Rattle.link_input.specs.ObjectFile.{ObjectFile}
 use Rattle.link_input.specs.Defaults.{default_options}
 use Rattle.link_manifest.specs.declared.contents.Contents.{Contents}
+use Rattle.link_manifest.specs.declared.contents.UncheckedBatch.{UncheckedBatch}
 use Rattle.link_manifest.specs.declared.manifest.Manifest.{Manifest}
 use Rattle.link_manifest.specs.declared.manifest.Manifest.TheVariants.{Elf}
 use Rattle.link_manifest.specs.Manifest.{world_of}
@@ -33,9 +34,8 @@ abbrev pub of_objects : Options → List ObjectFile → Contents
 of_objects options objects = record {
   options = options;
   texts = record { version_script = None; export_list = None };
-  objects = objects;
-  scripts = [];
-  stubs = [];
+  first = record { objects = objects; scripts = []; stubs = [] };
+  later = [];
 }
 
 -- options alone
@@ -44,7 +44,11 @@ of_options options = of_objects options []
 
 -- a linker script and a stub library alone
 abbrev pub of_libraries : ProcessedLinkerScript → StubLibrary → Contents
-of_libraries script stub = record (of_options default_options) { scripts = script ∷ []; stubs = stub ∷ [] }
+of_libraries script stub = record (of_options default_options) { first = record { objects = []; scripts = script ∷ []; stubs = stub ∷ [] } }
+
+-- batches behind one without a file
+abbrev pub of_batches : List UncheckedBatch → Contents
+of_batches later = record (of_options default_options) { later = later }
 
 -- what is linked for a platform like ELF
 abbrev pub elf_manifest : Contents → Manifest

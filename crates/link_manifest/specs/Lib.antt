@@ -7,6 +7,7 @@ pub mod Objects
 pub mod Redirects
 pub mod Libraries
 pub mod LinkOptions
+pub mod Batches
 pub mod Checked
 pub mod Manifest
 pub mod Examples

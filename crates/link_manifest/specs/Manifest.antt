@@ -1,5 +1,5 @@
 -- Which manifest some bytes are: the keys of its root, in the order in which they are walked.
-use Rattle.std.specs.Prelude.{ℕ, ◌^◌, List, [], ◌∷◌, true, false, Bool, length, Option, None, Result, Ok, Err, codes, nat_lt, if◌then◌else◌}
+use Rattle.std.specs.Prelude.{ℕ, ◌^◌, List, [], ◌∷◌, true, false, Bool, length, map, Option, None, Result, Ok, Err, codes, nat_lt, if◌then◌else◌}
 use Rattle.std.specs.Str.{is_utf8}
 use Rattle.serde_json.specs.Data.{Data}
 use Rattle.serde_json.specs.Read.{read}
@@ -11,33 +11,31 @@ use Rattle.link_manifest.specs.declared.manifest.Manifest.{Manifest}
 use Rattle.link_manifest.specs.declared.manifest.Manifest.TheVariants.{Elf, Mach}
 use Rattle.link_manifest.specs.declared.words.PlatformName.{PlatformName}
 use Rattle.link_manifest.specs.declared.words.PlatformName.TheVariants as platform
-use Rattle.link_manifest.specs.Reading.{fault_here, and_read, read_or, object_of_keys, optional, list_read}
+use Rattle.link_manifest.specs.Reading.{fault_here, and_read, read_or, object_of_keys, optional}
 use Rattle.link_manifest.specs.Words.{word_read, platform_words}
 use Rattle.link_manifest.specs.LinkOptions.{options_read, texts_read}
-use Rattle.link_manifest.specs.Objects.{object_read}
-use Rattle.link_manifest.specs.Libraries.{script_read, stub_read}
+use Rattle.link_manifest.specs.Batches.{batches_read, inputs_of}
 use Rattle.link_manifest.specs.Checked.{contents_checked}
 
 abbrev pub root_keys : List (List ℕ)
 root_keys =
     codes "platform" ∷ codes "output" ∷ codes "entry" ∷ codes "default_entry" ∷ codes "allow_multiple" ∷ codes "files_per_group" ∷ codes "wrap"
     ∷ codes "force_undefined" ∷ codes "force_export" ∷ codes "defsym" ∷ codes "linker_symbols" ∷ codes "custom_sections" ∷ codes "version_script"
-    ∷ codes "export_list" ∷ codes "objects" ∷ codes "scripts" ∷ codes "stubs" ∷ []
+    ∷ codes "export_list" ∷ codes "objects" ∷ codes "scripts" ∷ codes "stubs" ∷ codes "batches" ∷ []
 
 -- what the root says behind its platform, where that has a null entry or has none
 abbrev pub contents_read : Bool → Data → Result Contents ManifestFault
 contents_read has_null value =
     and_read (options_read value) (λ options.
     and_read (texts_read value) (λ texts.
-    and_read (optional (codes "objects") (list_read (object_read has_null)) [] value) (λ objects.
-    and_read (optional (codes "scripts") (list_read script_read) [] value) (λ scripts.
-    and_read (optional (codes "stubs") (list_read stub_read) [] value) (λ stubs.
-    Ok (record { options = options; texts = texts; objects = objects; scripts = scripts; stubs = stubs }))))))
+    and_read (batches_read has_null value) (λ batches.
+    Ok (record { options = options; texts = texts; first = batches.0; later = batches.1 }))))
 
 -- the world of some contents
 abbrev pub world_of : {P : Type 0} → Contents → World P
 world_of contents = record {
-  inputs = record { objects = contents.objects; scripts = contents.scripts; stubs = contents.stubs };
+  inputs = inputs_of contents.first;
+  later = map inputs_of contents.later;
   options = contents.options;
   scripts = contents.texts;
 }

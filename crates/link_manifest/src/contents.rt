@@ -20,12 +20,20 @@ impl Model for UncheckedObject {
     ghost view = { λ o. record { input = o.input; object = o.table; modifiers = o.modifiers } };
 }
 
+/// The files of a batch, whose tables are not checked.
+#[derive(Drop)]
+pub(crate) struct UncheckedBatch {
+    pub(crate) objects: Seq<UncheckedObject>,
+    pub(crate) scripts: Seq<ProcessedLinkerScript>,
+    pub(crate) stubs: Seq<StubLibrary>,
+}
+
 /// What the root says.
 #[derive(Drop)]
 pub(crate) struct Contents {
     pub(crate) options: Options,
     pub(crate) texts: Scripts,
-    pub(crate) objects: Seq<UncheckedObject>,
-    pub(crate) scripts: Seq<ProcessedLinkerScript>,
-    pub(crate) stubs: Seq<StubLibrary>,
+    /// The files of the first batch, which stand at the root itself.
+    pub(crate) first: UncheckedBatch,
+    pub(crate) later: Seq<UncheckedBatch>,
 }

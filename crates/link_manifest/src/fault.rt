@@ -55,6 +55,8 @@ pub enum Problem {
     Expected(Kind),
     /// The name of a custom section stands earlier in the list too.
     Repeated,
+    /// More batches come behind the first one than 255.
+    TooMany,
     /// The table of an object fails a check, and this is the first.
     Table(TableError),
 }
@@ -125,6 +127,7 @@ impl fmt::Display for Problem {
             Problem::Missing => f.write_str("missing"),
             Problem::Expected(kind) => write!(f, "expected {kind}"),
             Problem::Repeated => f.write_str("repeated"),
+            Problem::TooMany => f.write_str("too many"),
             Problem::Table(error) => write!(f, "{error}"),
         }
     }

@@ -2,7 +2,7 @@
 
 ghost use Rattle.std.specs.Prelude.{◌≡◌, [], ◌∷◌, None, Some, codes, false, true};
 ghost use Rattle.link_manifest.specs.FaultText.{fault_text};
-ghost use Rattle.link_manifest.specs.Examples.{global_symbol, regular_object, of_objects, of_options, of_libraries, elf_manifest};
+ghost use Rattle.link_manifest.specs.Examples.{global_symbol, regular_object, of_batches, of_objects, of_options, of_libraries, elf_manifest};
 ghost use Rattle.link_manifest.specs.Manifest.{manifest_of, world_of};
 ghost use Rattle.link_manifest.specs.Redirects.{redirect_of};
 ghost use Rattle.link_manifest.specs.Symbols.{null_entry};
@@ -112,6 +112,16 @@ pub fn read_libraries()
           symbol_defs = redirect_of redirect.Script (codes "a") (codes "b" ∷ []) true ∷ redirect_of redirect.Provide (codes "p") [] false ∷ [];
         })
         (record { input = codes "l"; strong = codes "s" ∷ []; weak = codes "w" ∷ [] }))) }
+{}
+
+/// What batches behind the first one give.
+pub fn read_batches()
+    ensures batches { manifest_of (codes "{\"batches\":[{},{\"stubs\":[{\"name\":\"l\"}],\"objects\":[{\"name\":\"m\"}]}]}")
+        ≡ Ok (elf_manifest (of_batches (record { objects = []; scripts = []; stubs = [] }
+        ∷ record { objects = regular_object (codes "m") 0 (null_entry ∷ []) [] ∷ []; scripts = []; stubs = record { input = codes "l"; strong = []; weak = [] } ∷ [] } ∷ []))) }
+    ensures unknown { manifest_of (codes "{\"batches\":[{\"wrap\":[]}]}") ≡ Err (record { path = Key (codes "batches") ∷ Item 0 ∷ Key (codes "wrap") ∷ []; problem = Problem.UnknownKey }) }
+    ensures table { manifest_of (codes "{\"batches\":[{},{\"objects\":[{\"name\":\"n\",\"symbols\":[{\"name\":\"f\",\"place\":0}]}]}]}")
+        ≡ Err (record { path = Key (codes "batches") ∷ Item 1 ∷ Key (codes "objects") ∷ Item 0 ∷ []; problem = Problem.Table (SectionRange 1) }) }
 {}
 
 /// What is told of bytes that are no manifest: an unknown key, numbers out of range, hexadecimal

@@ -1,24 +1,22 @@
 //! A manifest, and which bytes are one.
 
-ghost use Rattle.std.specs.Prelude.{◌≡◌, Ok, Err, IfOk, IfErr};
+ghost use Rattle.std.specs.Prelude.{◌≡◌, ◌≤◌, Ok, Err, IfOk, IfErr, length};
 ghost use Rattle.link_json.specs.Tree.{view};
 ghost use Rattle.link_manifest.specs.declared.fault.ManifestFault.{ManifestFault};
-ghost use Rattle.link_manifest.specs.Checked.{AreDistinct, HasDistinctSections, HasGroupSize, IsGroupSize, contents_checked};
+ghost use Rattle.link_manifest.specs.Checked.{AreDistinct, HasDistinctSections, HasFewBatches, HasGroupSize, IsGroupSize, contents_checked};
 ghost use Rattle.link_manifest.specs.Manifest.{contents_read, json_of, manifest_of, root_read, tree_of, world_of, world_read};
 ghost use Rattle.link_manifest.specs.Reading.{IsFaultOf, Reads, and_read, read_or};
 
+use crate::batches::{batches, checked_batch, checked_batches, few_batches};
 use crate::contents::Contents;
 use crate::fault::{ManifestError, Problem};
-use crate::libraries::{Script, Stub};
 use crate::link_options::{options, texts};
-use crate::objects::Object;
 use crate::path::fault_here;
-use crate::reading::{object_of_keys, optional, optional_list};
+use crate::reading::{object_of_keys, optional};
 use crate::sections::sections_checked;
-use crate::tables::checked_objects;
 use crate::words::{OneOf, PlatformName};
 use json::{Scratch, Value};
-use link_input::{ElfLike, Inputs, MachLike, Platform, World};
+use link_input::{ElfLike, MachLike, Platform, World};
 use link_names::text_of;
 use std::alloc::Global;
 use std::mem::ManuallyDrop;
@@ -40,15 +38,12 @@ fn contents<P: Platform>(alloc: Global, value: &Value<'_>) -> Result<Contents, M
 {
     let options = options(alloc, value)?;
     let texts = texts(alloc, value)?;
-    let objects = optional_list::<Object<P>>(alloc, value, "objects")?;
-    let scripts = optional_list::<Script>(alloc, value, "scripts")?;
-    let stubs = optional_list::<Stub>(alloc, value, "stubs")?;
+    let (first, later) = batches::<P>(alloc, value)?;
     Ok(Contents {
         options,
         texts,
-        objects,
-        scripts,
-        stubs,
+        first,
+        later,
     })
 }
 
@@ -57,21 +52,19 @@ fn checked_world<P: Platform>(alloc: Global, contents: Contents) -> Result<World
     ensures read { Reads result (and_read (contents_checked P.HAS_NULL_SYMBOL_ENTRY contents) (λ _. Ok (world_of contents))) }
     ensures options { IfOk result (λ world. world.options ≡ contents.options) }
     ensures distinct { IfOk result (λ world. AreDistinct world.options.custom_sections) }
+    ensures few { IfOk result (λ world. length world.later ≤ 255) }
 {
     let Contents {
         options,
         texts,
-        objects,
-        scripts,
-        stubs,
+        first,
+        later,
     } = contents;
     sections_checked(alloc, options.custom_sections.as_slice())?;
+    few_batches(alloc, later.as_slice())?;
     Ok(World {
-        inputs: Inputs {
-            objects: checked_objects(alloc, objects)?,
-            scripts,
-            stubs,
-        },
+        inputs: checked_batch(alloc, first)?,
+        later: checked_batches(alloc, later)?,
         options,
         scripts: texts,
     })
@@ -82,6 +75,7 @@ fn world<P: Platform>(alloc: Global, value: &Value<'_>) -> Result<World<P>, Mani
     ensures read { Reads result (world_read P.HAS_NULL_SYMBOL_ENTRY (view value.now)) }
     ensures group_size { IfOk result (λ world. IsGroupSize world.options.files_per_group) }
     ensures distinct { IfOk result (λ world. AreDistinct world.options.custom_sections) }
+    ensures few { IfOk result (λ world. length world.later ≤ 255) }
 {
     let contents = contents::<P>(alloc, value)?;
     checked_world(alloc, contents)
@@ -92,6 +86,7 @@ fn root(alloc: Global, value: &Value<'_>) -> Result<Manifest, ManifestError>
     ensures read { Reads result (root_read (view value.now)) }
     ensures group_size { IfOk result HasGroupSize }
     ensures distinct { IfOk result HasDistinctSections }
+    ensures few { IfOk result HasFewBatches }
 {
     object_of_keys(
         alloc,
@@ -114,6 +109,7 @@ fn root(alloc: Global, value: &Value<'_>) -> Result<Manifest, ManifestError>
             "objects",
             "scripts",
             "stubs",
+            "batches",
         ],
     )?;
     match optional::<OneOf<PlatformName>>(alloc, value, "platform", PlatformName::Elf)? {
@@ -172,6 +168,7 @@ pub fn manifest_of(alloc: Global, bytes: &[u8]) -> Result<Manifest, ManifestErro
     ensures fault { (fault : ManifestFault) → result ≡ Err (ManifestError.At fault) → manifest_of bytes.now ≡ Err fault }
     ensures group_size { IfOk result HasGroupSize }
     ensures distinct { IfOk result HasDistinctSections }
+    ensures few { IfOk result HasFewBatches }
 {
     let mut scratch = Scratch::new(alloc);
     let value = tree_of(alloc, bytes, &mut scratch)?;
@@ -187,6 +184,7 @@ pub fn manifest_leaking_tree(alloc: Global, bytes: &[u8]) -> Result<Manifest, Ma
     ensures fault { (fault : ManifestFault) → result ≡ Err (ManifestError.At fault) → manifest_of bytes.now ≡ Err fault }
     ensures group_size { IfOk result HasGroupSize }
     ensures distinct { IfOk result HasDistinctSections }
+    ensures few { IfOk result HasFewBatches }
 {
     let mut scratch = Scratch::new(alloc);
     let value = ManuallyDrop::new(tree_of(alloc, bytes, &mut scratch)?);

@@ -4,13 +4,12 @@ use Rattle.std.specs.Prelude.{All, slice_get}
 use Rattle.std.specs.Option.{is_some, option_map}
 use Rattle.std.specs.Str.{bytes_eq}
 use Rattle.std.proofs.lemmas.List.Elements.{All-append, All-cons, All-nil}
-use Rattle.link_names.specs.NameHash.{fnv_1a}
 use Rattle.link_buckets.specs.declared.definition.Definition.{Definition}
 use Rattle.link_buckets.specs.declared.label.Label.{Label}
 use Rattle.link_buckets.specs.declared.label.Label.TheVariants.{Plain, Versioned}
 use Rattle.link_buckets.specs.Buckets.{AreHashed, ids_with}
 use Rattle.link_buckets.proofs.Running.{ids_with-append}
-use Rattle.link_buckets.specs.Keys.{Key, leads_to, number_of, same_key}
+use Rattle.link_buckets.specs.Keys.{Key, hash_of, leads_to, number_of, same_key}
 use Rattle.link_input.specs.Symbols.{Symbol}
 use Rattle.link_reading.specs.Definitions.{definition_by, definitions_by, definitions_from}
 use Rattle.link_rules.specs.Names.{is_listed, is_version_listed, is_version_named}
@@ -128,7 +127,7 @@ plain_list names n (x ∷ symbols) lead name =
     let plain : leads_to names (Plain n) key ≡ bytes_eq x.name name = leads_by names (Plain n) (plain_key x.name) key (lead_first names n x symbols lead) ∙ and_true (bytes_eq x.name name) in
     let no = no_plain names n x name (λ version some. lead_first_versioned names n x symbols version lead some) in
     let here : ids_with names (definitions_by n x) key ≡ kept_if (is_listed x && bytes_eq x.name name) n (kept_if false n []) =
-    ids_of_two names key (is_listed x) (is_version_listed x) (definition_by (Plain n) n x) (definition_by (Versioned n) n x)
+    ids_of_two names key (is_listed x) (is_version_listed x) (definition_by (Plain n) None n x) (definition_by (Versioned n) x.version n x)
     ∙ ap (λ (b : Bool). kept_if (is_listed x && b) n (kept_if (is_version_listed x && leads_to names (Versioned n) key) n [])) plain
     ∙ ap (λ (b : Bool). kept_if (is_listed x && bytes_eq x.name name) n (kept_if b n [])) no in
     ids_with-append names (definitions_by n x) (definitions_from (n + 1) symbols) key
@@ -147,7 +146,7 @@ versioned_list names n (x ∷ symbols) lead name version =
     let plain : leads_to names (Plain n) key ≡ false = leads_by names (Plain n) (plain_key x.name) key (lead_first names n x symbols lead) ∙ and_false (bytes_eq x.name name) in
     let own = own_version names n x name version (λ v some. lead_first_versioned names n x symbols v lead some) in
     let here : ids_with names (definitions_by n x) key ≡ kept_if false n (kept_if test n []) =
-    ids_of_two names key (is_listed x) (is_version_listed x) (definition_by (Plain n) n x) (definition_by (Versioned n) n x)
+    ids_of_two names key (is_listed x) (is_version_listed x) (definition_by (Plain n) None n x) (definition_by (Versioned n) x.version n x)
     ∙ ap (λ (b : Bool). kept_if (is_listed x && b) n (kept_if (is_version_listed x && leads_to names (Versioned n) key) n [])) plain
     ∙ ap (λ (b : Bool). kept_if b n (kept_if (is_version_listed x && leads_to names (Versioned n) key) n [])) (and_false (is_listed x))
     ∙ ap (λ (b : Bool). kept_if false n (kept_if b n [])) own in
@@ -205,16 +204,16 @@ definitions_hashed names n [] lead = All-nil (λ d. number_of names d.label ≡ 
 definitions_hashed names n (x ∷ symbols) lead =
     All-append (λ d. number_of names d.label ≡ Some d.hash) (definitions_by n x) (definitions_from (n + 1) symbols) here (definitions_hashed names (n + 1) symbols (lead_next names n x symbols lead))
   where
-    second : (b : Bool) → is_version_listed x ≡ b → All (λ d. number_of names d.label ≡ Some d.hash) (kept_if b (definition_by (Versioned n) n x) [])
+    second : (b : Bool) → is_version_listed x ≡ b → All (λ d. number_of names d.label ≡ Some d.hash) (kept_if b (definition_by (Versioned n) x.version n x) [])
     second true e =
         let there = version_there x e in
-        All-cons (λ d. number_of names d.label ≡ Some d.hash) (definition_by (Versioned n) n x) []
-        (ap (option_map (λ (key : Key). fnv_1a key.name)) (lead_first_versioned names n x symbols there.0 lead there.1)) (All-nil (λ d. number_of names d.label ≡ Some d.hash))
+        All-cons (λ d. number_of names d.label ≡ Some d.hash) (definition_by (Versioned n) x.version n x) []
+        (ap (option_map hash_of) (lead_first_versioned names n x symbols there.0 lead there.1) ∙ ap (λ (v : Option (List ℕ)). Some (hash_of (key_with x.name v))) (sym there.1)) (All-nil (λ d. number_of names d.label ≡ Some d.hash))
     second false e = All-nil (λ d. number_of names d.label ≡ Some d.hash)
 
-    first : (b : Bool) → All (λ d. number_of names d.label ≡ Some d.hash) (kept_if b (definition_by (Plain n) n x) (kept_if (is_version_listed x) (definition_by (Versioned n) n x) []))
-    first true = All-cons (λ d. number_of names d.label ≡ Some d.hash) (definition_by (Plain n) n x) (kept_if (is_version_listed x) (definition_by (Versioned n) n x) [])
-        (ap (option_map (λ (key : Key). fnv_1a key.name)) (lead_first names n x symbols lead)) (second (is_version_listed x) refl)
+    first : (b : Bool) → All (λ d. number_of names d.label ≡ Some d.hash) (kept_if b (definition_by (Plain n) None n x) (kept_if (is_version_listed x) (definition_by (Versioned n) x.version n x) []))
+    first true = All-cons (λ d. number_of names d.label ≡ Some d.hash) (definition_by (Plain n) None n x) (kept_if (is_version_listed x) (definition_by (Versioned n) x.version n x) [])
+        (ap (option_map hash_of) (lead_first names n x symbols lead)) (second (is_version_listed x) refl)
     first false = second (is_version_listed x) refl
 
     here : All (λ d. number_of names d.label ≡ Some d.hash) (definitions_by n x)

@@ -3,10 +3,10 @@
 ghost use Rattle.std.specs.Prelude.{◌≡◌};
 
 use crate::symbol_mapping::SymbolMapping;
-use link_buckets::Label;
+use link_buckets::{Label, key_hash};
 use link_ids::SymbolId;
 use link_input::Platform;
-use link_names::{Name, hash_bytes};
+use link_names::Name;
 use std::alloc::AllocError;
 
 /// The symbol of a number, if there is one.
@@ -52,7 +52,7 @@ impl<P: Platform> SymbolMapping<P> {
         ensures err { OnErr result (seen self.new ≡ seen self.old) }
         ensures kept { (other : ℕ) → held_at self.new other ≡ held_at self.old other }
     {
-        let hash = hash_bytes(self.tables.overridden[place as usize].as_slice());
+        let hash = key_hash(self.tables.overridden[place as usize].as_slice(), None);
         let number = id.as_usize() as u32;
         let before = self
             .buckets
@@ -71,7 +71,7 @@ impl<P: Platform> SymbolMapping<P> {
         let name = tables.overridden[place as usize].as_slice();
         let number = id.as_usize() as u32;
         self.buckets
-            .remap(tables, hash_bytes(name), name, None, number);
+            .remap(tables, key_hash(name, None), name, None, number);
     }
 
     /// Maps a plain name to a symbol, and answers what it was mapped to. Mirrors Wild's `SymbolDb::override_name`.

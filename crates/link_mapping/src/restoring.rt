@@ -6,8 +6,8 @@ ghost use Rattle.link_buckets.specs.Buckets.{AreKeyed, definitions_at, overridde
 ghost use Rattle.link_buckets.specs.Keys.{Key, same_key};
 ghost use Rattle.link_mapping.specs.Keys.{plain_key};
 
-use link_buckets::{Buckets, Names};
-use link_names::{Name, hash_bytes};
+use link_buckets::{Buckets, Names, key_hash};
+use link_names::Name;
 
 /// Takes away what these plain names are overridden with.
 pub(crate) fn restore_all<T: Names>(buckets: &mut Buckets, table: &T, names: &[Name])
@@ -19,6 +19,6 @@ pub(crate) fn restore_all<T: Names>(buckets: &mut Buckets, table: &T, names: &[N
 {
     for name in names {
         let name = name.as_slice();
-        buckets.restore(table, hash_bytes(name), name, None);
+        buckets.restore(table, key_hash(name, None), name, None);
     }
 }

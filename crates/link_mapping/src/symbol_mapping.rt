@@ -6,11 +6,10 @@ ghost use Rattle.link_mapping.specs.Tables.{AreNamed};
 
 use crate::mapped_names::MappedNames;
 use crate::name_tables::NameTables;
-use link_buckets::{Buckets, Definitions};
+use link_buckets::{Buckets, Definitions, key_hash};
 use link_files::Files;
 use link_ids::SymbolId;
 use link_input::Platform;
-use link_names::hash_bytes;
 use std::alloc::{AllocError, Global};
 
 /// The files of a link, and for each name the symbols that define it and the one that it is mapped to. Mirrors what Wild's `SymbolDb`
@@ -25,8 +24,7 @@ pub struct SymbolMapping<P: Platform> {
 impl<P: Platform> SymbolMapping<P> {
     ghost use Rattle.std.specs.Prelude.{◌<◌, ◌≢◌, ℕ, [], List, All, AllPairs, Contains, IfOk, IfSome, None, Some, length, option_map, take};
     ghost use Rattle.std.specs.Option.{option_map_or};
-    ghost use Rattle.link_names.specs.NameHash.{fnv_1a};
-    ghost use Rattle.link_buckets.specs.Keys.{Key, key_of};
+    ghost use Rattle.link_buckets.specs.Keys.{Key, hash_of, key_of};
     ghost use Rattle.link_files.specs.HeldFiles.{names_in};
     ghost use Rattle.link_mapping.specs.Mapped.{later_in, later_versioned_in, later_with, mapped_key, mapping_of};
     ghost use Rattle.link_mapping.specs.Seen.{seen};
@@ -60,7 +58,7 @@ impl<P: Platform> SymbolMapping<P> {
         name: &[u8],
         version: Option<&[u8]>,
     ) -> Option<&Definitions>
-        requires hashed { hash ≡ fnv_1a name.now }
+        requires hashed { hash ≡ hash_of (key_of name.now version) }
         ensures value { option_map_or (λ d. d.now) result [] ≡ (seen self.now).lists (key_of name.now version.entry) }
         ensures within { IfSome result (λ d. All (λ id. id < length (names_in (seen self.now).files)) d.now) }
     {
@@ -69,7 +67,7 @@ impl<P: Platform> SymbolMapping<P> {
 
     /// The symbol to which the name, or the name and version, is mapped.
     pub fn mapped(&self, hash: u64, name: &[u8], version: Option<&[u8]>) -> Option<SymbolId>
-        requires hashed { hash ≡ fnv_1a name.now }
+        requires hashed { hash ≡ hash_of (key_of name.now version) }
         ensures value { result ≡ mapped_key (seen self.now) (key_of name.now version.entry) }
         ensures within { IfSome result (λ id. id < length (names_in (seen self.now).files)) }
     {
@@ -116,7 +114,7 @@ impl<P: Platform> SymbolMapping<P> {
         ensures within { All (λ later. later < length (names_in (seen self.now).files)) result.now }
     {
         let name = self.tables.files.symbol_name(id);
-        let hash = hash_bytes(name.as_slice());
+        let hash = key_hash(name.as_slice(), version);
         match self.definitions(hash, name.as_slice(), version) {
             Some(definitions) => behind(definitions, id),
             None => &[],

@@ -3,11 +3,11 @@
 ghost use Rattle.std.specs.Prelude.{◌≡◌};
 
 use crate::symbol_mapping::SymbolMapping;
-use link_buckets::Label;
+use link_buckets::{Label, key_hash};
 use link_groups::Group;
 use link_ids::{FileId, SymbolId};
 use link_input::Platform;
-use link_names::{Name, hash_bytes};
+use link_names::Name;
 use std::alloc::{AllocError, Global};
 
 impl<P: Platform> SymbolMapping<P> {
@@ -60,10 +60,10 @@ impl<P: Platform> SymbolMapping<P> {
         ensures overridden { OnOk result ((seen self.new).overridden ≡ (seen self.old).overridden) }
         ensures err { OnErr result (seen self.new ≡ seen self.old) }
     {
-        let mapped = self.mapped(hash_bytes(name.as_slice()), name.as_slice(), None);
+        let mapped = self.mapped(key_hash(name.as_slice(), None), name.as_slice(), None);
         let id = self.tables.files.add_synthetic_symbol(name)?;
         let listed = mapped.unwrap_or(id);
-        let hash = hash_bytes(self.tables.files.symbol_name(listed).as_slice());
+        let hash = key_hash(self.tables.files.symbol_name(listed).as_slice(), None);
         let label = Label::Plain(listed.as_usize() as u32);
         let number = id.as_usize() as u32;
         if let Err(error) = self.buckets.add(&self.tables, hash, label, number) {

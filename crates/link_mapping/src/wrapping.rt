@@ -3,9 +3,10 @@
 ghost use Rattle.std.specs.Prelude.{◌≡◌, ◌++◌, IfOk};
 
 use crate::symbol_mapping::SymbolMapping;
+use link_buckets::key_hash;
 use link_ids::SymbolId;
 use link_input::Platform;
-use link_names::{Name, hash_bytes};
+use link_names::Name;
 use std::alloc::{AllocError, Global};
 
 /// A name with a prefix.
@@ -31,7 +32,7 @@ impl<P: Platform> SymbolMapping<P> {
         ensures value { result ≡ mapping_of (seen self.now) name.now }
         ensures within { IfSome result (λ id. id < length (names_in (seen self.now).files)) }
     {
-        self.mapped(hash_bytes(name.as_slice()), name.as_slice(), None)
+        self.mapped(key_hash(name.as_slice(), None), name.as_slice(), None)
     }
 
     /// The symbol to which a name is mapped, where its real name is mapped to none.

@@ -1,6 +1,6 @@
 //! What each symbol of a link says, by its id.
 
-ghost use Rattle.std.specs.Prelude.{◌≡◌, IfOk, map};
+ghost use Rattle.std.specs.Prelude.{◌≡◌, ◌++◌, ◌∷◌, [], IfOk, OnOk, map};
 ghost use Rattle.link_files.specs.GroupFiles.{symbols_in};
 ghost use Rattle.link_input.specs.Symbols.{is_shared, object_in, visibility_in};
 ghost use Rattle.link_rules.specs.Names.{is_listed, is_version_listed};
@@ -11,20 +11,6 @@ use link_flags::Visibility;
 use link_input::Platform;
 use link_symbols::{SymbolOrigin, SymbolView, symbols};
 use std::alloc::{AllocError, Global};
-
-/// Whether a shared object or a stub library gives the symbol, for each symbol of the files, by its id. The only refusal is want of memory.
-pub fn dynamic_symbols<P: Platform>(
-    alloc: Global,
-    files: &Files<P>,
-) -> Result<Vec<bool>, AllocError>
-    ensures { IfOk result (λ column. column.items ≡ map (λ x. is_shared x.origin) (symbols_in files.now.groups)) }
-{
-    let mut column = Vec::with_capacity(alloc, files.num_symbols())?;
-    for (_, symbol) in symbols(files) {
-        column.push(symbol.is_shared())?;
-    }
-    Ok(column)
-}
 
 /// The place of the object that holds the symbol, among all objects of the link, for each symbol of the files, by its id. The only refusal is
 /// want of memory.
@@ -41,44 +27,54 @@ pub fn object_places<P: Platform>(
     Ok(column)
 }
 
-/// Whether the symbol is a definition that is found by its plain name, for each symbol of the files, by its id. The only refusal is want of memory.
-pub fn listed_symbols<P: Platform>(alloc: Global, files: &Files<P>) -> Result<Vec<bool>, AllocError>
-    ensures { IfOk result (λ column. column.items ≡ map is_listed (symbols_in files.now.groups)) }
-{
-    let mut column = Vec::with_capacity(alloc, files.num_symbols())?;
-    for (_, symbol) in symbols(files) {
-        column.push(symbol.is_listed())?;
-    }
-    Ok(column)
+/// What the settling of rivals asks of each symbol of the files, in columns by the ids of symbols.
+#[derive(Drop)]
+pub struct RivalColumns {
+    /// Whether a shared object or a stub library gives the symbol.
+    pub dynamic: Vec<bool>,
+    /// How far the symbol can be seen.
+    pub visibilities: Vec<Visibility>,
+    /// Whether the symbol is a definition that is found by its plain name.
+    pub listed: Vec<bool>,
+    /// Whether the symbol is a definition that is found by its name and version.
+    pub version_listed: Vec<bool>,
 }
 
-/// Whether the symbol is a definition that is found by its name and version, for each symbol of the files, by its id. The only refusal is want
-/// of memory.
-pub fn version_listed_symbols<P: Platform>(
-    alloc: Global,
-    files: &Files<P>,
-) -> Result<Vec<bool>, AllocError>
-    ensures { IfOk result (λ column. column.items ≡ map is_version_listed (symbols_in files.now.groups)) }
+/// Adds what a symbol says to the columns.
+fn push_symbol(columns: &mut RivalColumns, symbol: &SymbolView) -> Result<(), AllocError>
+    ensures dynamic { OnOk result (columns.new.dynamic.items ≡ columns.old.dynamic.items ++ is_shared symbol.now.origin ∷ []) }
+    ensures visibilities { OnOk result (columns.new.visibilities.items ≡ columns.old.visibilities.items ++ visibility_in symbol.now.origin ∷ []) }
+    ensures listed { OnOk result (columns.new.listed.items ≡ columns.old.listed.items ++ is_listed symbol.now ∷ []) }
+    ensures version_listed { OnOk result (columns.new.version_listed.items ≡ columns.old.version_listed.items ++ is_version_listed symbol.now ∷ []) }
 {
-    let mut column = Vec::with_capacity(alloc, files.num_symbols())?;
-    for (_, symbol) in symbols(files) {
-        column.push(symbol.is_version_listed())?;
-    }
-    Ok(column)
+    columns.dynamic.push(symbol.is_shared())?;
+    columns.visibilities.push(symbol.visibility())?;
+    columns.listed.push(symbol.is_listed())?;
+    columns.version_listed.push(symbol.is_version_listed())?;
+    Ok(())
 }
 
-/// How far each symbol of the files can be seen, by its id. The only refusal is want of memory.
-pub fn visibilities<P: Platform>(
+/// These columns of the files, by one pass over their symbols. The only refusal is want of memory.
+pub fn rival_columns<P: Platform>(
     alloc: Global,
     files: &Files<P>,
-) -> Result<Vec<Visibility>, AllocError>
-    ensures { IfOk result (λ column. column.items ≡ map (λ x. visibility_in x.origin) (symbols_in files.now.groups)) }
+) -> Result<RivalColumns, AllocError>
+    ensures dynamic { IfOk result (λ columns. columns.dynamic.items ≡ map (λ x. is_shared x.origin) (symbols_in files.now.groups)) }
+    ensures visibilities { IfOk result (λ columns. columns.visibilities.items ≡ map (λ x. visibility_in x.origin) (symbols_in files.now.groups)) }
+    ensures listed { IfOk result (λ columns. columns.listed.items ≡ map is_listed (symbols_in files.now.groups)) }
+    ensures version_listed { IfOk result (λ columns. columns.version_listed.items ≡ map is_version_listed (symbols_in files.now.groups)) }
 {
-    let mut column = Vec::with_capacity(alloc, files.num_symbols())?;
+    let count = files.num_symbols();
+    let mut columns = RivalColumns {
+        dynamic: Vec::with_capacity(alloc, count)?,
+        visibilities: Vec::with_capacity(alloc, count)?,
+        listed: Vec::with_capacity(alloc, count)?,
+        version_listed: Vec::with_capacity(alloc, count)?,
+    };
     for (_, symbol) in symbols(files) {
-        column.push(symbol.visibility())?;
+        push_symbol(&mut columns, &symbol)?;
     }
-    Ok(column)
+    Ok(columns)
 }
 
 /// Whether a loaded regular object holds the symbol.

@@ -5,8 +5,5 @@
 mod columns;
 mod marks;
 
-pub use columns::{
-    dynamic_symbols, held_symbols, listed_symbols, object_places, version_listed_symbols,
-    visibilities,
-};
+pub use columns::{RivalColumns, held_symbols, object_places, rival_columns};
 pub use marks::{mark_symbol, reference_flags};

@@ -11,6 +11,10 @@ fnv_step hash byte = (bit_xor hash byte * 0x100000001b3) % 2 ^ 64
 unfoldable pub fnv_1a : List ℕ → ℕ
 fnv_1a bytes = fold fnv_step 0xcbf29ce484222325 bytes
 
+-- the number of bytes, carried on over the bytes behind them
+unfoldable pub fnv_1a_on : ℕ → List ℕ → ℕ
+fnv_1a_on hash bytes = fold fnv_step hash bytes
+
 -- equal bytes have equal numbers
 pub fnv_1a-alike : (x y : List ℕ) → IsTrue (pointwise nat_eq x y) → fnv_1a x ≡ fnv_1a y
 fnv_1a-alike x y e = ap fnv_1a ((bytes_decides x y).0 e)

@@ -17,7 +17,7 @@ mod special_names;
 mod symbol_name;
 
 pub use agreement::{hash_agrees_with_eq, order_and_hash_agree_with_eq};
-pub use fnv::hash_bytes;
+pub use fnv::{extend_hash, hash_bytes};
 pub use name::Name;
 pub use name_map::NameMap;
 pub use name_set::NameSet;

@@ -9,7 +9,7 @@ use Rattle.std.specs.Prelude.{IfSome}
 use Rattle.link_rules.specs.Linked.{Linked as Answer}
 use Rattle.link_rules.specs.declared.refusal.LinkError.{LinkError}
 use Rattle.link_rules.specs.declared.refusal.LinkError.TheVariants as refusal
-use Rattle.link_rules.specs.Answer.{IsRefused}
+use Rattle.link_rules.specs.Answer.{IsLinked, IsRefused}
 use Rattle.link_rules.specs.Places.{Bytes}
 use Rattle.link_rules.specs.Report.{refusal_text}
 use Rattle.link_rules.specs.World.{World}
@@ -19,11 +19,11 @@ use Rattle.link_program.specs.declared.status.Status.{Status}
 use Rattle.link_program.specs.declared.status.Status.TheVariants.{Linked, Refused, Usage, Manifest, ReadFault, WriteFault, Memory}
 use Rattle.link_program.specs.declared.run.Told.TheVariants.{Report, Summary}
 use Rattle.link_program.specs.Grammar.{IsBulk, IsLink}
-use Rattle.link_program.specs.Outcome.{error_line, given_of, told_text, world_of_manifest, IsLinkText, IsSummary, IsTextFor, IsTextOf, IsWorldText}
+use Rattle.link_program.specs.Outcome.{error_line, given_of, objects_given, told_text, world_of_manifest, IsLinkText, IsSummary, IsTextFor, IsTextOf, IsWorldText}
 
 -- what is reported of a link of what some bytes describe, is so of the bytes
 pub text-of_link : (bytes : Bytes) (m : Described) (s : Status) (text : Bytes) → manifest_of bytes ≡ Ok m
-    → IsWorldText (world_of_manifest m) (told_text Report (given_of m).first.objects) s text → IsTextOf bytes s text
+    → IsWorldText (world_of_manifest m) (told_text Report (objects_given (given_of m))) s text → IsTextOf bytes s text
 text-of_link bytes m Linked text is held = (m, is, held)
 text-of_link bytes m Refused text is (cause, told, line) = (m, cause, is, told, line)
 text-of_link bytes m Usage text is held = absurd held
@@ -66,6 +66,10 @@ summary-of members Manifest text some few held = absurd held
 summary-of members ReadFault text some few held = absurd held
 summary-of members WriteFault text some few held = absurd held
 summary-of members Memory text some few held = absurd held
+
+-- a link that stands ends with what is told of it
+pub linked-text : (w : World) (tell : Answer → Bytes) (linked : Answer) (s : Status) (text : Bytes) → IsLinked w linked → s ≡ Linked → text ≡ tell linked → IsWorldText w tell s text
+linked-text w tell linked s text is ends line = subst (λ t. IsWorldText w tell t text) (sym ends) (linked, is, line)
 
 -- a refused link ends with the text of its cause
 pub refused-text : (w : World) (tell : Answer → Bytes) (e : LinkError) (s : Status) (text : Bytes) → IsRefused w e ⊎ (e ≡ refusal.Memory) → e ≢ refusal.Memory → s ≡ Refused

@@ -1,9 +1,11 @@
 -- What a command writes, by how it ends.
-use Rattle.std.specs.Prelude.{◌≡◌, ◌⊎◌, ℕ, List, [], ◌++◌, Option, IsSome, IfSome, Ok, Err, codes}
+use Rattle.std.specs.Prelude.{◌≡◌, ◌⊎◌, ℕ, List, [], ◌∷◌, ◌++◌, map, Option, IsSome, IfSome, Ok, Err, codes}
+use Rattle.std.specs.List.{flat_map}
 use Rattle.link_bulk.specs.Bulk.{bulk_objects}
 use Rattle.link_bulk.specs.World.{bulk_world}
-use Rattle.link_core.specs.Given.{given_by}
+use Rattle.link_core.specs.Given.{given_in_batches}
 use Rattle.link_rules.specs.Places.{Bytes}
+use Rattle.link_input.specs.InputFiles.{batch_of}
 use Rattle.link_input.specs.ObjectFile.{ObjectFile}
 use Rattle.link_rules.specs.Report.{report_text}
 use Rattle.link_rules.specs.World.{Given, World, world_of}
@@ -36,10 +38,14 @@ status_number Memory = 6
 abbrev pub error_line : Bytes → Bytes
 error_line what = codes "error: " ++ what ++ codes "\n"
 
--- what a manifest gives, whatever its platform: one batch
+-- what a manifest gives, whatever its platform: its batches, with options and texts
 abbrev pub given_of : Described → Given
-given_of (Elf world) = given_by world.inputs world.options world.scripts
-given_of (Mach world) = given_by world.inputs world.options world.scripts
+given_of (Elf world) = given_in_batches (batch_of world.inputs) (map batch_of world.later) world.options world.scripts
+given_of (Mach world) = given_in_batches (batch_of world.inputs) (map batch_of world.later) world.options world.scripts
+
+-- the objects that are given, batch after batch
+abbrev pub objects_given : Given → List ObjectFile
+objects_given given = flat_map (λ b. b.objects) (given.first ∷ given.later)
 
 -- the rules of its platform
 abbrev pub platform_of : Described → PlatformRules

@@ -1,12 +1,13 @@
 //! The program, over any source and sink.
 
-ghost use Rattle.std.specs.Prelude.{◌≡◌, ◌≢◌, ◌≤◌, ◌⊎◌, ◌+◌, ◌^◌, ◌++◌, codes, IfOk};
+ghost use Rattle.std.specs.Prelude.{◌≡◌, ◌≢◌, ◌≤◌, ◌⊎◌, ◌+◌, ◌^◌, ◌++◌, ◌∷◌, codes, IfOk, length, map};
 ghost use Rattle.link_answer.specs.Parts.{answer_of};
 ghost use Rattle.link_answer.specs.Seen as answer;
-ghost use Rattle.link_core.specs.Given.{given_by};
+ghost use Rattle.link_core.specs.Given.{given_in_batches};
 ghost use Rattle.link_files.specs.Inputs.{objects_in};
+ghost use Rattle.link_input.specs.InputFiles.{batch_of};
 ghost use Rattle.link_loader.specs.Holds.{platform_of};
-ghost use Rattle.link_manifest.specs.Checked.{HasGroupSize, IsGroupSize};
+ghost use Rattle.link_manifest.specs.Checked.{HasFewBatches, HasGroupSize, IsGroupSize};
 ghost use Rattle.link_manifest.specs.FaultText.{fault_text};
 ghost use Rattle.link_rules.specs.declared.refusal.LinkError.TheVariants.{Memory};
 ghost use Rattle.link_rules.specs.Places.{Bytes};
@@ -14,7 +15,7 @@ ghost use Rattle.link_rules.specs.Report.{refusal_text};
 ghost use Rattle.link_rules.specs.World.{world_of};
 ghost use Rattle.link_streams.specs.Streams.{IsAtEnd, GivesAtMost, Takes, TakesPart, Rose};
 ghost use Rattle.link_program.specs.Grammar.{IsInRange, IsLink, ReadsNothing};
-ghost use Rattle.link_program.specs.Outcome.{error_line, IsSummary, IsTextOf, IsLinkText, IsTextFor, IsDue, IsWorldText, given_of, told_text, world_of_manifest};
+ghost use Rattle.link_program.specs.Outcome.{error_line, IsSummary, IsTextOf, IsLinkText, IsTextFor, IsDue, IsWorldText, given_of, objects_given, told_text, world_of_manifest};
 
 use crate::command::{Command, command_of};
 use crate::status::Status;
@@ -22,8 +23,8 @@ use crate::word::Word;
 use link_answer::Linked;
 use link_bulk::bulk_manifest;
 use link_claim::OpenGate;
-use link_core::link_symbols;
-use link_input::{Platform, World};
+use link_core::link_batches;
+use link_input::{Inputs, Platform, World};
 use link_manifest::{
     MAX_BYTES, Manifest, ManifestError, ManifestFault, Problem, manifest_leaking_tree,
 };
@@ -185,12 +186,25 @@ fn answer_to_manifest<R: Threads + Sync>(
 ) -> Result<Answer, AllocError>
     requires in_range { IsInRange (Command.Link workers) }
     requires group_size { HasGroupSize manifest }
-    ensures { IfOk result (λ a. IsWorldText (world_of_manifest manifest) (told_text told (given_of manifest).first.objects) a.status a.text.items) }
+    requires few { HasFewBatches manifest }
+    ensures { IfOk result (λ a. IsWorldText (world_of_manifest manifest) (told_text told (objects_given (given_of manifest))) a.status a.text.items) }
 {
     match manifest {
         Manifest::Elf(world) => answer_to_world(rt, alloc, workers, told, world),
         Manifest::Mach(world) => answer_to_world(rt, alloc, workers, told, world),
     }
+}
+
+/// The first batch and those behind it, as one list.
+fn in_one_list<P: Platform>(
+    first: Inputs<P>,
+    later: Seq<Inputs<P>>,
+) -> Result<Vec<Inputs<P>>, AllocError>
+    ensures { IfOk result (λ batches. batches.items ≡ first ∷ later) }
+{
+    let mut batches = later.into_vec();
+    batches.insert(0, first)?;
+    Ok(batches)
 }
 
 /// The answer to a link of this world.
@@ -203,26 +217,40 @@ fn answer_to_world<R: Threads + Sync, P: Platform + Sync>(
 ) -> Result<Answer, AllocError>
     requires in_range { IsInRange (Command.Link workers) }
     requires group_size { IsGroupSize world.options.files_per_group }
-    ensures { IfOk result (λ a. IsWorldText (world_of (platform_of P.Platform) (λ name. name) (given_by world.inputs world.options world.scripts))
-        (told_text told world.inputs.objects) a.status a.text.items) }
+    requires few { length world.later ≤ 255 }
+    ensures { let given = given_in_batches (batch_of world.inputs) (map batch_of world.later) world.options world.scripts in
+        IfOk result (λ a. IsWorldText (world_of (platform_of P.Platform) (λ name. name) given) (told_text told (objects_given given)) a.status a.text.items) }
 {
     let World {
         inputs,
+        later,
         options,
         scripts,
     } = world;
-    match link_symbols(
-        rt, alloc, &OpenGate, inputs, options, scripts, &Plain, workers,
+    let batches = in_one_list(inputs, later)?;
+    match link_batches(
+        rt, alloc, &OpenGate, batches, options, scripts, &Plain, workers,
     ) {
-        Ok(linked) => {
-            let text = text_of(alloc, told, &linked)?;
-            Ok(Answer {
-                status: Status::Linked,
-                text,
-            })
-        }
+        Ok(linked) => linked_answer(alloc, told, &linked),
         Err(error) => refusal_answer(alloc, error),
     }
+}
+
+/// The answer to a link that stands.
+fn linked_answer<P: Platform>(
+    alloc: Global,
+    told: Told,
+    linked: &Linked<P>,
+) -> Result<Answer, AllocError>
+    ensures status { IfOk result (λ a. a.status ≡ Status.Linked) }
+    ensures text { IfOk result (λ a. a.text.items
+        ≡ told_text told (objects_in (answer.seen linked.now).db.mapping.files.groups) (answer_of (answer.seen linked.now))) }
+{
+    let text = text_of(alloc, told, linked)?;
+    Ok(Answer {
+        status: Status::Linked,
+        text,
+    })
 }
 
 /// The answer to a link that is refused; none where memory ran out.

@@ -25,7 +25,7 @@ pub fn load_prelude(prelude: &Prelude, read: &mut ReadSymbols) -> Result<(), All
         let id = SymbolId::from_usize(place);
         let flags = flags_of_definition(definition);
         let listing = listing_of_definition(definition);
-        read.add_symbol(id, definition.name.as_slice(), flags, listing)?;
+        read.add_symbol(id, definition.name.as_slice(), None, flags, listing)?;
     }
     Ok(())
 }
@@ -42,7 +42,7 @@ pub fn load_script(script: &SequencedLinkerScript, read: &mut ReadSymbols) -> Re
         let id = ids.offset_to_id(place);
         let flags = flags_of_script_symbol(definition);
         let listing = listing_of_script_symbol(definition);
-        read.add_symbol(id, definition.name.as_slice(), flags, listing)?;
+        read.add_symbol(id, definition.name.as_slice(), None, flags, listing)?;
     }
     Ok(())
 }
@@ -59,7 +59,7 @@ pub fn load_stub(stub: &SequencedStubLibrary, read: &mut ReadSymbols) -> Result<
     let listing = listing_of_stub_symbol();
     for (place, symbol) in stub.defined_symbols.as_slice().iter().enumerate() {
         let id = ids.offset_to_id(place);
-        read.add_symbol(id, symbol.name.as_slice(), flags, listing)?;
+        read.add_symbol(id, symbol.name.as_slice(), None, flags, listing)?;
     }
     Ok(())
 }

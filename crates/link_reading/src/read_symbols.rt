@@ -1,10 +1,9 @@
 //! What is read of symbols.
 
 use crate::listing::Listing;
-use link_buckets::{Definition, Label};
+use link_buckets::{Definition, Label, key_hash};
 use link_flags::ValueFlags;
 use link_ids::SymbolId;
-use link_names::hash_bytes;
 use std::alloc::{AllocError, Global};
 
 /// What is read of the symbols of files that follow one another.
@@ -17,7 +16,7 @@ pub struct ReadSymbols {
 }
 
 impl ReadSymbols {
-    ghost use Rattle.std.specs.Prelude.{◌≡◌, ◌++◌, [], ◌∷◌, OnOk};
+    ghost use Rattle.std.specs.Prelude.{◌≡◌, ◌++◌, [], ◌∷◌, OnOk, option_map};
     ghost use Rattle.link_input.specs.Symbols.{Symbol};
     ghost use Rattle.link_rules.specs.Names.{is_listed, is_version_listed};
     ghost use Rattle.link_reading.specs.Definitions.{definitions_by};
@@ -39,11 +38,12 @@ impl ReadSymbols {
         &mut self,
         id: SymbolId,
         name: &[u8],
+        version: Option<&[u8]>,
         flags: ValueFlags,
         listing: Listing,
     ) -> Result<(), AllocError>
         ensures flags { OnOk result (numbers_of self.new.flags.items ≡ numbers_of self.old.flags.items ++ flags.0 ∷ []) }
-        ensures definitions { OnOk result ((x : Symbol) → x.name ≡ name.now → listing.plain ≡ is_listed x → listing.versioned ≡ is_version_listed x
+        ensures definitions { OnOk result ((x : Symbol) → x.name ≡ name.now → x.version ≡ option_map (λ v. v.now) version.entry → listing.plain ≡ is_listed x → listing.versioned ≡ is_version_listed x
             → self.new.definitions.items ≡ self.old.definitions.items ++ definitions_by id x) }
     {
         self.flags.push(flags)?;
@@ -51,12 +51,13 @@ impl ReadSymbols {
             return Ok(());
         }
         let id = id.as_usize() as u32;
-        let hash = hash_bytes(name);
         if listing.plain {
+            let hash = key_hash(name, None);
             let label = Label::Plain(id);
             self.definitions.push(Definition { hash, label, id })?;
         }
         if listing.versioned {
+            let hash = key_hash(name, version);
             let label = Label::Versioned(id);
             self.definitions.push(Definition { hash, label, id })?;
         }

@@ -29,9 +29,7 @@ use link_db::SymbolDb;
 use link_flags::{PerSymbolFlags, Visibility};
 use link_ids::SymbolId;
 use link_input::Platform;
-use link_marking::{
-    dynamic_symbols, held_symbols, listed_symbols, version_listed_symbols, visibilities,
-};
+use link_marking::{RivalColumns, held_symbols, rival_columns};
 use link_rivals::{Clash, Survivors, narrow, settle};
 use link_rules::LinkError;
 use std::alloc::{AllocError, Global};
@@ -222,10 +220,12 @@ fn settle_rivals<P: Platform>(
     ensures err { OnErr result (words_of flags.new ≡ words_of flags.old) }
 {
     let _numbers = db.num_symbols();
-    let dynamic = dynamic_symbols(alloc, db.files())?;
-    let visibilities = visibilities(alloc, db.files())?;
-    let found = listed_symbols(alloc, db.files())?;
-    let version_found = version_listed_symbols(alloc, db.files())?;
+    let RivalColumns {
+        dynamic,
+        visibilities,
+        listed: found,
+        version_listed: version_found,
+    } = rival_columns(alloc, db.files())?;
     let (plain, versioned) = settle_table(
         alloc,
         db,

@@ -11,3 +11,5 @@ pub mod Declared
 pub mod Listing
 pub mod Answered
 pub mod Refused
+pub mod Globs
+pub mod VersionGlobs

@@ -6,6 +6,7 @@ pub mod Rank
 pub mod RustForm
 pub mod Regular
 pub mod VersionOf
+pub mod VersionGlobs
 pub mod VersionIndex
 pub mod Script
 pub mod ExportRules

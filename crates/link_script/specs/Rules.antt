@@ -24,6 +24,12 @@ abbrev pub glob_fits : List (List GlobToken) → Option (List ℕ) → Bool
 glob_fits globs None = false
 glob_fits globs (Some text) = has_glob globs (chars text)
 
+-- the globs of this class
+abbrev pub globs_in : Class → BasicMatchRules → List (List GlobToken)
+globs_in Nonstar rules = rules.nonstar_globs.items
+globs_in Star rules = rules.star_globs.items
+globs_in class rules = []
+
 -- whether a pattern of this class fits the name
 abbrev pub rules_fit : BasicMatchRules → Class → Option (List ℕ) → Option (List ℕ) → Bool
 rules_fit rules Exact name text = exact_fits rules.exact name

@@ -10,6 +10,7 @@ use Rattle.link_script.specs.Filter.{rules_of}
 use Rattle.link_script.specs.Lookup.{Asked}
 use Rattle.link_names.specs.Names.{is_member, value_in}
 use Rattle.link_script.specs.Rules.{version_has, side_in}
+use Rattle.link_script.specs.VersionGlobs.{AreClassOf}
 use Rattle.link_script.specs.VersionOf.{last_named}
 
 -- whether the version lists the name exactly, in blocks of C++ (`true`) or outside them
@@ -44,6 +45,6 @@ pub record IsIndexOf (versions : List Version) (index : VersionIndex) : Type 0 w
   pub named : (name : List ℕ) → value_in index.named name ≡ last_named versions name (length versions)
   pub plain : (name : List ℕ) → value_in index.plain name ≡ first_listing versions false name
   pub cxx : (name : List ℕ) → value_in index.cxx name ≡ first_listing versions true name
-  pub nonstar : index.nonstar ≡ numbers_with versions Nonstar
-  pub star : index.star ≡ numbers_with versions Star
+  pub nonstar : AreClassOf versions Nonstar index.nonstar
+  pub star : AreClassOf versions Star index.star
   pub every : index.every ≡ numbers_with versions Every

@@ -85,7 +85,8 @@ impl ExportList {
         ensures refused { IfErr result (λ e. Refuses e text.now (gnu_list text.now)) }
     {
         let entries = read_gnu_list(alloc, text)?;
-        let rules = MatchRules::from_entries(alloc, entries)?;
+        let mut rules = MatchRules::from_entries(alloc, entries)?;
+        rules.make_index()?;
         let required = Seq::new(alloc);
         Ok(ExportList {
             alloc,
@@ -116,6 +117,7 @@ impl ExportList {
         let required = exact_names(alloc, matchers.as_slice())?;
         let mut rules = MatchRules::new(alloc);
         rules.push(ParsedSymbolMatcher::Multiple(matchers))?;
+        rules.make_index()?;
         Ok(ExportList {
             alloc,
             rules,
@@ -166,6 +168,8 @@ impl ExportList {
     {
         let entry = read_added_entry(self.alloc, text, without_semicolon)?;
         self.rules.push(entry)?;
+        // The entry is in the list by now: where the index takes no more, its globs are looked at one after the other.
+        let _ = self.rules.make_index();
         Ok(())
     }
 

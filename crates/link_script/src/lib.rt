@@ -10,6 +10,7 @@ mod rules;
 mod rust_form;
 mod script;
 mod symbol_version;
+mod version_globs;
 mod version_index;
 
 pub use export_list::ExportList;

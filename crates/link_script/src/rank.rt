@@ -7,10 +7,12 @@ ghost use Rattle.link_script.specs.Filter.{AreVersions};
 ghost use Rattle.link_script.specs.Lookup.{seen, asked};
 ghost use Rattle.link_script.specs.Rank.{IsBest, filters_of, filters_in};
 ghost use Rattle.link_script.specs.Rules.{plain_fits, cxx_fits, side_in, first_in, last_in, best_match};
+ghost use Rattle.link_script.specs.VersionGlobs.{AreClassOf, IsGlobClass};
 ghost use Rattle.link_script.specs.VersionIndex.{IsIndexOf, numbers_with};
 
 use crate::lookup::{Demangler, Lookup, look_up};
 use crate::rules::{Class, MatchRules, Version};
+use crate::version_globs::ClassGlobs;
 use crate::version_index::VersionIndex;
 use link_syntax::Side;
 
@@ -95,6 +97,22 @@ fn last_in(
     None
 }
 
+/// The last version with a glob of the class that fits the name. The globs are those of all versions.
+fn last_glob_in(
+    class: Class,
+    versions: &[Version],
+    globs: &ClassGlobs,
+    name: &Lookup,
+) -> Option<(usize, Side)>
+    requires globs { AreClassOf versions.now class globs.now }
+    requires with_globs { IsGlobClass class }
+    ensures value { result ≡ last_in class (seen name.now) versions.now (length versions.now) }
+    ensures within { IfSome result (λ x. x.0 < length versions.now) }
+{
+    let (number, side) = globs.strongest(name)?;
+    Some((usize::from(number), side))
+}
+
 /// The strongest match, class by class: of exact matches the first version has it, of others the last.
 #[tactic(auto, unfolding(crate::specs::Rules::best_match))]
 fn best_match(versions: &[Version], index: &VersionIndex, name: &Lookup) -> Option<(usize, Side)>
@@ -105,10 +123,10 @@ fn best_match(versions: &[Version], index: &VersionIndex, name: &Lookup) -> Opti
     if let Some(found) = first_in(versions, index, name) {
         return Some(found);
     }
-    if let Some(found) = last_in(Class::Nonstar, versions, index.with_nonstar(), name) {
+    if let Some(found) = last_glob_in(Class::Nonstar, versions, index.nonstar(), name) {
         return Some(found);
     }
-    if let Some(found) = last_in(Class::Star, versions, index.with_star(), name) {
+    if let Some(found) = last_glob_in(Class::Star, versions, index.star(), name) {
         return Some(found);
     }
     last_in(Class::Every, versions, index.with_every(), name)

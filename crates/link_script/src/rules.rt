@@ -6,15 +6,14 @@ ghost use Rattle.link_script.specs.Room.{is_of, count_of, exact_name, HasNameRoo
 ghost use Rattle.link_names.specs.Names.{is_member};
 ghost use Rattle.link_script.specs.Lookup.{seen, asked, name_of, text_of};
 ghost use Rattle.link_script.specs.Rank.{HasFit, glob_class};
-ghost use Rattle.std.specs.Str.{chars};
 ghost use Rattle.std.specs.Option.{option_map};
 ghost use Rattle.link_syntax.specs.declared.body.Side.{Side};
 ghost use Rattle.link_script.specs.Filter.{Filter, every, HasFilter, SameRules, SameFilters, Adds, AddsAll, AddsEntry, HasEntries, HasBody, IsVersion, of_language};
 ghost use Rattle.link_script.specs.Regular.{base};
-ghost use Rattle.link_script.specs.Rules.{has_glob, exact_fits, glob_fits, rules_fit, rules_have, version_has};
+ghost use Rattle.link_script.specs.Rules.{exact_fits, glob_fits, globs_in, rules_fit, rules_have, version_has};
 
 use crate::lookup::{Demangler, Lookup, look_up, name_of, text_of};
-use link_glob::Pattern;
+use link_glob::{GlobList, Pattern};
 use link_names::{Name, NameSet, Seq};
 use link_syntax::{ParsedSymbolMatcher, RawVersion, RawVersionBody, SymbolMatcher};
 use std::alloc::{AllocError, Global};
@@ -32,8 +31,8 @@ pub enum Class {
 #[derive(Drop)]
 pub struct BasicMatchRules {
     exact: NameSet,
-    star_globs: Vec<Pattern>,
-    nonstar_globs: Vec<Pattern>,
+    star_globs: GlobList,
+    nonstar_globs: GlobList,
     matches_all: bool,
 }
 
@@ -61,18 +60,6 @@ pub struct Version {
     pub version_body: VersionBody,
 }
 
-/// Whether one of the globs fits the text.
-fn has_glob(globs: &[Pattern], text: &str) -> bool
-    ensures { result ≡ has_glob globs.now (chars text.now) }
-{
-    for glob in globs {
-        if glob.matches(text) {
-            return true;
-        }
-    }
-    false
-}
-
 /// Whether the name is one of these; no name is none of them.
 fn exact_fits(names: &NameSet, name: Option<&[u8]>) -> bool
     ensures { result ≡ exact_fits names.now (option_map (λ n. n.now) name.entry) }
@@ -84,11 +71,11 @@ fn exact_fits(names: &NameSet, name: Option<&[u8]>) -> bool
 }
 
 /// Whether one of the globs fits the text; what is no text fits none.
-fn glob_fits(globs: &[Pattern], text: Option<&str>) -> bool
-    ensures { result ≡ glob_fits globs.now (option_map (λ t. t.now) text.entry) }
+fn glob_fits(globs: &GlobList, text: Option<&str>) -> bool
+    ensures { result ≡ glob_fits globs.now.items (option_map (λ t. t.now) text.entry) }
 {
     match text {
-        Some(text) => has_glob(globs, text),
+        Some(text) => globs.last_match(text).is_some(),
         None => false,
     }
 }
@@ -170,8 +157,8 @@ impl BasicMatchRules {
     {
         BasicMatchRules {
             exact: NameSet::new(alloc),
-            star_globs: Vec::new(alloc),
-            nonstar_globs: Vec::new(alloc),
+            star_globs: GlobList::new(alloc),
+            nonstar_globs: GlobList::new(alloc),
             matches_all: false,
         }
     }
@@ -216,6 +203,26 @@ impl BasicMatchRules {
             self.push(matcher).unwrap();
         }
         Ok(())
+    }
+
+    /// Puts the globs into their indexes, so that a look-up need not go over all of them. Where that is refused, the rules
+    /// are what they were.
+    pub(crate) fn make_index(&mut self) -> Result<(), AllocError>
+        ensures { self.new ≡ self.old }
+    {
+        self.nonstar_globs.make_index()?;
+        self.star_globs.make_index()
+    }
+
+    /// The globs of this class, in order.
+    pub(crate) fn globs(&self, class: Class) -> &[Pattern]
+        ensures { result.now ≡ globs_in class self.now }
+    {
+        match class {
+            Class::Nonstar => self.nonstar_globs.as_slice(),
+            Class::Star => self.star_globs.as_slice(),
+            _ => &[],
+        }
     }
 
     /// Whether a pattern of this class fits the name, which is compared demangled where `cxx` says so.
@@ -298,6 +305,14 @@ impl MatchRules {
             ParsedSymbolMatcher::Multiple(matchers) => self.general.push_all(matchers),
             ParsedSymbolMatcher::CxxMatchers(matchers) => self.cxx.push_all(matchers),
         }
+    }
+
+    /// Puts the globs into their indexes, as `BasicMatchRules::make_index` does.
+    pub(crate) fn make_index(&mut self) -> Result<(), AllocError>
+        ensures { self.new ≡ self.old }
+    {
+        self.general.make_index()?;
+        self.cxx.make_index()
     }
 
     /// Whether there is a pattern of this class.

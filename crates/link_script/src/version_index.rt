@@ -10,6 +10,7 @@ ghost use Rattle.link_script.specs.VersionIndex.{IsIndexOf, earlier, first_exact
 
 use crate::lookup::{Lookup, name_of};
 use crate::rules::{BasicMatchRules, Class, Version, VersionBody};
+use crate::version_globs::ClassGlobs;
 use link_names::{Name, NameMap, Seq};
 use std::alloc::{AllocError, Global};
 
@@ -22,10 +23,10 @@ pub struct VersionIndex {
     plain: NameMap<u16>,
     /// The same in blocks of C++.
     cxx: NameMap<u16>,
-    /// The versions that have a glob without a star.
-    nonstar: Seq<u16>,
-    /// The versions that have a glob with a star.
-    star: Seq<u16>,
+    /// The globs without a star of all versions.
+    nonstar: ClassGlobs,
+    /// The globs with a star of all versions.
+    star: ClassGlobs,
     /// The versions that have a bare star.
     every: Seq<u16>,
 }
@@ -86,8 +87,8 @@ impl VersionIndex {
             named: NameMap::new(alloc),
             plain: NameMap::new(alloc),
             cxx: NameMap::new(alloc),
-            nonstar: Seq::new(alloc),
-            star: Seq::new(alloc),
+            nonstar: ClassGlobs::new(alloc),
+            star: ClassGlobs::new(alloc),
             every: Seq::new(alloc),
         }
     }
@@ -107,10 +108,18 @@ impl VersionIndex {
             number,
         )?;
         note_listed(&mut self.cxx, alloc, &globals.cxx, &locals.cxx, number)?;
-        note_if(&mut self.nonstar, number, version.has(Class::Nonstar))?;
-        note_if(&mut self.star, number, version.has(Class::Star))?;
+        self.nonstar.note(Class::Nonstar, version, number)?;
+        self.star.note(Class::Star, version, number)?;
         note_if(&mut self.every, number, version.has(Class::Every))?;
         Ok(())
+    }
+
+    /// Puts the globs of all versions into their indexes.
+    fn make_index(&mut self) -> Result<(), AllocError>
+        ensures { self.new ≡ self.old }
+    {
+        self.nonstar.make_index()?;
+        self.star.make_index()
     }
 
     /// The index of these versions.
@@ -122,6 +131,7 @@ impl VersionIndex {
         for (number, version) in versions.iter().enumerate() {
             index.note(alloc, version, number as u16)?;
         }
+        index.make_index()?;
         Ok(index)
     }
 
@@ -142,18 +152,18 @@ impl VersionIndex {
         )
     }
 
-    /// The versions, in order, that have a glob without a star.
-    pub fn with_nonstar(&self) -> &[u16]
+    /// The globs without a star of all versions.
+    pub fn nonstar(&self) -> &ClassGlobs
         ensures { result.now ≡ self.now.nonstar }
     {
-        self.nonstar.as_slice()
+        &self.nonstar
     }
 
-    /// The versions, in order, that have a glob with a star.
-    pub fn with_star(&self) -> &[u16]
+    /// The globs with a star of all versions.
+    pub fn star(&self) -> &ClassGlobs
         ensures { result.now ≡ self.now.star }
     {
-        self.star.as_slice()
+        &self.star
     }
 
     /// The versions, in order, that have a bare star.

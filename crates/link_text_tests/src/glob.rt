@@ -1,7 +1,7 @@
 //! That patterns compile where there is enough memory, and what they then fit, in both dialects; the texts of refusals; that fifty stars end.
 
 use link_glob::{
-    GlobError, GlobPatternType, Pattern, analyze_glob_pattern, compile_glob_pattern,
+    GlobError, GlobList, GlobPatternType, Pattern, analyze_glob_pattern, compile_glob_pattern,
     compile_macho_glob_pattern, unescape_pattern,
 };
 use std::alloc::AllocError;
@@ -150,6 +150,87 @@ fn texts_of_refusals(rt: HostRuntime) -> Result<(), Fail> {
         (GlobError::Memory, "out of memory"),
     ] {
         assert_eq!(rt; format!(in rt.alloc(); "{fault}")?.as_str(), text);
+    }
+    Ok(())
+}
+
+/// Globs that begin with characters, that end with some, that do both and neither; several with the same ones, and some whose
+/// characters are of several bytes.
+const LISTED: &[&[u8]] = &[
+    b"foo_*",
+    b"*_bar",
+    b"*a*",
+    b"?x",
+    b"[ab]c*",
+    b"foo_*_bar",
+    b"foo_?",
+    b"*_bar",
+    b"f*",
+    b"*r",
+    b"\xc3\xa4*",
+    b"*\xc3\xa4",
+    b"foo_*",
+    b"a*a",
+    b"b?d*_long_end",
+    b"exactly_this",
+    b"*",
+];
+
+const LOOKED_UP: &[&str] = &[
+    "",
+    "a",
+    "aa",
+    "x",
+    "xx",
+    "ac",
+    "foo_",
+    "foo_1",
+    "foo_12",
+    "foo_bar",
+    "foo__bar",
+    "foo",
+    "_bar",
+    "bar",
+    "r",
+    "f",
+    "\u{e4}",
+    "\u{e4}x",
+    "x\u{e4}",
+    "bcd_long_end",
+    "bcdz_long_end",
+    "exactly_this",
+    "exactly_this_",
+    "zzz",
+];
+
+/// The number of the last of the first `count` globs that fits the name, by a look at each.
+fn last_of_all(globs: &[Pattern], count: usize, name: &str) -> Option<usize> {
+    let mut found = None;
+    for (number, glob) in globs.iter().enumerate() {
+        if number < count && glob.matches(name) {
+            found = Some(number);
+        }
+    }
+    found
+}
+
+#[test]
+fn lists_find_what_a_look_at_each_glob_finds(rt: HostRuntime) -> Result<(), Fail> {
+    let mut list = GlobList::new(rt.alloc());
+    for (number, &pattern) in LISTED.iter().enumerate() {
+        list.push(compile(&rt, false, pattern).ok().ok_or("a pattern")?)?;
+        for indexed in [false, true] {
+            if indexed && number % 3 == 0 {
+                list.make_index()?;
+            }
+            for &name in LOOKED_UP {
+                assert_eq!(rt;
+                    list.last_match(name),
+                    last_of_all(list.as_slice(), number + 1, name),
+                    "{number} {name}"
+                );
+            }
+        }
     }
     Ok(())
 }

@@ -1,3 +1,5 @@
+use Rattle.std.proofs.Common.{inr, refl}
+use Rattle.link_rules.specs.declared.refusal.LinkError.TheVariants.{Memory}
 use Rattle.link_core.proofs.Passing.{err-into, ok-into, refused-through}
 use Rattle.link_core.proofs.link.finish_link.Goals as goal
 
@@ -22,3 +24,7 @@ pub returns-clause-linked : goal.returns-clause-linked
 returns-clause-linked g c =
     let demangle = g.D.Demangler.demangled c.args.demangler.now in
     ok-into c.end_link.result _ _ (λ linked held. λ w l loaded. held w l (c.in_ok-db.ensures.settled demangle w l loaded)) c.end_link.ensures.linked
+
+-- memory ran out
+pub returns-in_err-sections-clause-refused : goal.returns-in_err-sections-clause-refused
+returns-in_err-sections-clause-refused g c = refused-through c.from_residual.result _ Memory c.from_residual.ensures.1 (λ w l loaded. inr refl)

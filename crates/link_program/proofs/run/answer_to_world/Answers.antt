@@ -1,14 +1,44 @@
+use Rattle.std.proofs.Common.{◌∙◌, List, ap, arith, length, map}
+use Rattle.std.specs.List.{flat_map}
+use Rattle.link_input.specs.InputFiles.{Batch, batch_of}
+use Rattle.link_input.specs.ObjectFile.{ObjectFile}
+use Rattle.link_answer.specs.Parts.{answer_of}
+use Rattle.link_answer.specs.Seen as answer
 use Rattle.link_loader.specs.Holds.{platform_of}
-use Rattle.link_rules.specs.World.{World, world_of}
-use Rattle.link_core.specs.Given.{given_by}
-use Rattle.link_program.specs.Outcome.{told_text}
-use Rattle.link_program.proofs.OfWorld.{ok-through, refused-text}
+use Rattle.link_rules.specs.World.{Given, World, world_of}
+use Rattle.link_core.specs.Given.{given_in_batches}
+use Rattle.link_program.specs.Outcome.{objects_given, told_text}
+use Rattle.link_program.proofs.OfWorld.{linked-text, ok-through, refused-text}
 use Rattle.link_program.proofs.run.answer_to_world.Goals as goal
+
+-- there is a batch
+pub link_batches-requires-clause-some : goal.link_batches-requires-clause-some
+link_batches-requires-clause-some g c = let many = ap (λ (xs : List _). length xs) c.in_ok-batches.ensures in omega (arith, many)
+
+-- and not too many come
+pub link_batches-requires-clause-most : goal.link_batches-requires-clause-most
+link_batches-requires-clause-most g c = let many = ap (λ (xs : List _). length xs) c.in_ok-batches.ensures in let few = c.requires.few in omega (arith, many, few)
 
 -- a refused link
 pub returns-in-Err : goal.returns-in-Err
 returns-in-Err g c =
     let world = c.args.world in
-    let w : World = world_of (platform_of g.P.Platform) (λ name. name) (given_by world.inputs world.options world.scripts) in
-    ok-through c.refusal_answer.result _ _ _ _ (λ a cause status line. refused-text w (told_text c.args.told world.inputs.objects) c.in-Err.error a.status a.text.items c.in-Err.ensures.refused cause status line)
+    let given : Given = given_in_batches (batch_of world.inputs) (map batch_of world.later) world.options world.scripts in
+    let w : World = world_of (platform_of g.P.Platform) (λ name. name) given in
+    let all = ap (λ (xs : List _). map batch_of xs) c.in_ok-batches.ensures in
+    ok-through c.refusal_answer.result _ _ _ _ (λ a cause status line. refused-text w (told_text c.args.told (objects_given given)) c.in-Err.error a.status a.text.items
+    (c.in-Err.ensures.refused (batch_of world.inputs) (map batch_of world.later) all) cause status line)
     c.refusal_answer.ensures.cause c.refusal_answer.ensures.status c.refusal_answer.ensures.text
+
+-- a link that stands
+pub returns-in-Ok : goal.returns-in-Ok
+returns-in-Ok g c =
+    let world = c.args.world in
+    let given : Given = given_in_batches (batch_of world.inputs) (map batch_of world.later) world.options world.scripts in
+    let w : World = world_of (platform_of g.P.Platform) (λ name. name) given in
+    let told = answer_of (answer.seen c.in-Ok.linked) in
+    let all = ap (λ (xs : List _). map batch_of xs) c.in_ok-batches.ensures in
+    let objects = c.in-Ok.ensures.objects ∙ ap (λ (bs : List Batch). flat_map (λ (b : Batch). b.objects) bs) all in
+    ok-through c.linked_answer.result _ _ _ _ (λ a status line same. linked-text w (told_text c.args.told (objects_given given)) told a.status a.text.items
+    (c.in-Ok.ensures.linked (batch_of world.inputs) (map batch_of world.later) all) status (line ∙ ap (λ (os : List ObjectFile). told_text c.args.told os told) objects))
+    c.linked_answer.ensures.status c.linked_answer.ensures.text c.linked_answer.ensures.text

@@ -1,4 +1,4 @@
-use Rattle.std.proofs.Common.{◌++◌, ◌∷◌, [], ℕ, sym, ap, ◌∙◌, arith}
+use Rattle.std.proofs.Common.{◌++◌, ◌∷◌, [], ℕ, refl, sym, ap, ◌∙◌, arith}
 use Rattle.link_input.specs.declared.world.StubSymbol.{StubSymbol}
 use Rattle.link_input.specs.Symbols.{in_stub, stub_strength, symbol_of}
 use Rattle.link_rules.specs.Opening.{opening_flags}
@@ -16,7 +16,7 @@ loop-place-preserved c =
     let rest = rest_is items i x c.loop-place-test.true c.symbol-item.is in
     record {
       definitions = next_definitions symbol items i x rest before.definitions.items _ _ c.args.stub.now.symbol_id_range.start c.offset_to_id-id.result c.offset_to_id-id.ensures.value
-          (c.in_ok-add_symbol.ensures.definitions (symbol x) (sym c.as_slice.ensures) (c.listing_of_stub_symbol-listing.ensures.plain x) (c.listing_of_stub_symbol-listing.ensures.versioned x))
+          (c.in_ok-add_symbol.ensures.definitions (symbol x) (sym c.as_slice.ensures) refl (c.listing_of_stub_symbol-listing.ensures.plain x) (c.listing_of_stub_symbol-listing.ensures.versioned x))
           c.loop-place.invariant.definitions;
       flags = λ w. next_flags symbol items i x rest (opening_flags w) (numbers_of before.flags.items) _ _
           (c.in_ok-add_symbol.ensures.flags ∙ ap (λ (n : ℕ). numbers_of before.flags.items ++ n ∷ []) (c.flags_of_stub_symbol-flags.ensures w (stub_strength x)))

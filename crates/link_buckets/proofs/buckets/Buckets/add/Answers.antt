@@ -2,9 +2,8 @@ use Rattle.std.proofs.Common.{◌≡◌, ◌++◌, ◌∷◌, [], refl, sym, tru
 use Rattle.std.proofs.lemmas.Option.{slice_get_read}
 use Rattle.std.proofs.lemmas.Result.{on_ok_weaker, on_err_weaker}
 use Rattle.std.specs.Option.{option_or}
-use Rattle.link_names.specs.NameHash.{fnv_1a}
 use Rattle.link_buckets.specs.Bucket.{definitions_in, label_in, overridden_in}
-use Rattle.link_buckets.specs.Keys.{Key, leads_to}
+use Rattle.link_buckets.specs.Keys.{Key, leads_to, hash_of}
 use Rattle.link_buckets.proofs.Keys.{number_there}
 use Rattle.link_buckets.proofs.Rounds.{asked_of-set, asked_of-same, keyed-set, settled-set}
 use Rattle.link_buckets.proofs.buckets.Buckets.add.Goals as goal
@@ -28,7 +27,7 @@ returns-clause-definitions g c =
     let i = c.place_of-place.result in
     let b = c.index_mut-bucket.result.now in
     let is = slice_get_read bs (length bs) i b refl c.place_of-place.ensures.within c.index_mut-bucket.ensures.value in
-    let only : (asked : Key) → leads_to names c.args.label asked ≡ true → fnv_1a asked.name ≡ c.args.hash = λ asked leads. sym (number_there names c.args.label asked c.args.hash c.requires.hashed leads) in
+    let only : (asked : Key) → leads_to names c.args.label asked ≡ true → hash_of asked ≡ c.args.hash = λ asked leads. sym (number_there names c.args.label asked c.args.hash c.requires.hashed leads) in
     on_ok_weaker c.add.result (λ changed. asked_of-set (definitions_in names) [] bs c.args.hash i b c.add.new.self (leads_to names c.args.label) (λ l. l ++ c.args.id ∷ []) c.place_of-place.ensures.place is only changed) c.add.ensures.definitions
 
 pub returns-clause-err : goal.returns-clause-err
@@ -56,7 +55,7 @@ returns-clause-labels g c =
     let i = c.place_of-place.result in
     let b = c.index_mut-bucket.result.now in
     let is = slice_get_read bs (length bs) i b refl c.place_of-place.ensures.within c.index_mut-bucket.ensures.value in
-    let only : (asked : Key) → leads_to names c.args.label asked ≡ true → fnv_1a asked.name ≡ c.args.hash = λ asked leads. sym (number_there names c.args.label asked c.args.hash c.requires.hashed leads) in
+    let only : (asked : Key) → leads_to names c.args.label asked ≡ true → hash_of asked ≡ c.args.hash = λ asked leads. sym (number_there names c.args.label asked c.args.hash c.requires.hashed leads) in
     on_ok_weaker c.add.result (λ changed. asked_of-set (label_in names) None bs c.args.hash i b c.add.new.self (leads_to names c.args.label) (λ o. option_or o (Some c.args.label)) c.place_of-place.ensures.place is only changed) c.add.ensures.labels
 
 pub returns-clause-labels_err : goal.returns-clause-labels_err

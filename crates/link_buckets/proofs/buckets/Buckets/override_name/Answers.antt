@@ -3,10 +3,9 @@ use Rattle.std.proofs.lemmas.Option.{slice_get_read}
 use Rattle.std.proofs.lemmas.Result.{on_ok_weaker, on_err_weaker, IfOk-weaker}
 use Rattle.std.specs.Option.{option_or}
 use Rattle.std.specs.Prelude.{slice_get}
-use Rattle.link_names.specs.NameHash.{fnv_1a}
 use Rattle.link_buckets.specs.Bucket.{definitions_in, label_in, overridden_in, mapped_in}
 use Rattle.link_buckets.specs.Buckets.{definitions_at, mapped_at}
-use Rattle.link_buckets.specs.Keys.{Key, leads_to}
+use Rattle.link_buckets.specs.Keys.{Key, leads_to, hash_of}
 use Rattle.link_buckets.proofs.Keys.{number_there}
 use Rattle.link_buckets.proofs.Rounds.{asked_of-set, asked_of-same, asked_here, keyed-set, settled-set}
 use Rattle.link_buckets.proofs.buckets.Buckets.override_name.Goals as goal
@@ -30,7 +29,7 @@ returns-clause-before g c =
     let i = c.place_of-place.result in
     let b = c.index_mut-bucket.result.now in
     let is = slice_get_read bs (length bs) i b refl c.place_of-place.ensures.within c.index_mut-bucket.ensures.value in
-    let only : (asked : Key) → leads_to names c.args.label asked ≡ true → fnv_1a asked.name ≡ c.args.hash = λ asked leads. sym (number_there names c.args.label asked c.args.hash c.requires.hashed leads) in
+    let only : (asked : Key) → leads_to names c.args.label asked ≡ true → hash_of asked ≡ c.args.hash = λ asked leads. sym (number_there names c.args.label asked c.args.hash c.requires.hashed leads) in
     λ asked leads.
     let there = only asked leads in
     let mapped : mapped_in names b asked ≡ mapped_at names c.args.self.now asked =
@@ -45,7 +44,7 @@ returns-clause-overridden g c =
     let i = c.place_of-place.result in
     let b = c.index_mut-bucket.result.now in
     let is = slice_get_read bs (length bs) i b refl c.place_of-place.ensures.within c.index_mut-bucket.ensures.value in
-    let only : (asked : Key) → leads_to names c.args.label asked ≡ true → fnv_1a asked.name ≡ c.args.hash = λ asked leads. sym (number_there names c.args.label asked c.args.hash c.requires.hashed leads) in
+    let only : (asked : Key) → leads_to names c.args.label asked ≡ true → hash_of asked ≡ c.args.hash = λ asked leads. sym (number_there names c.args.label asked c.args.hash c.requires.hashed leads) in
     on_ok_weaker c.override_name.result (λ changed. asked_of-set (overridden_in names) None bs c.args.hash i b c.override_name.new.self (leads_to names c.args.label) (λ _. Some c.args.id) c.place_of-place.ensures.place is only changed) c.override_name.ensures.overridden
 
 pub returns-clause-err : goal.returns-clause-err
@@ -73,7 +72,7 @@ returns-clause-labels g c =
     let i = c.place_of-place.result in
     let b = c.index_mut-bucket.result.now in
     let is = slice_get_read bs (length bs) i b refl c.place_of-place.ensures.within c.index_mut-bucket.ensures.value in
-    let only : (asked : Key) → leads_to names c.args.label asked ≡ true → fnv_1a asked.name ≡ c.args.hash = λ asked leads. sym (number_there names c.args.label asked c.args.hash c.requires.hashed leads) in
+    let only : (asked : Key) → leads_to names c.args.label asked ≡ true → hash_of asked ≡ c.args.hash = λ asked leads. sym (number_there names c.args.label asked c.args.hash c.requires.hashed leads) in
     on_ok_weaker c.override_name.result (λ changed. asked_of-set (label_in names) None bs c.args.hash i b c.override_name.new.self (leads_to names c.args.label) (λ o. option_or o (Some c.args.label)) c.place_of-place.ensures.place is only changed) c.override_name.ensures.labels
 
 pub returns-clause-labels_err : goal.returns-clause-labels_err

@@ -1,9 +1,8 @@
 use Rattle.std.proofs.Common.{◌≡◌, ◌∙◌, [], refl, sym, ap, inl, true, None, length}
 use Rattle.std.proofs.lemmas.Option.{slice_get_read}
-use Rattle.link_names.specs.NameHash.{fnv_1a}
 use Rattle.link_buckets.specs.Bucket.{definitions_in, overridden_in}
 use Rattle.link_buckets.specs.Heads.{without_last}
-use Rattle.link_buckets.specs.Keys.{Key, key_of, same_key}
+use Rattle.link_buckets.specs.Keys.{Key, key_of, same_key, hash_of}
 use Rattle.link_buckets.proofs.Keys.{keys_equal}
 use Rattle.link_buckets.proofs.Rounds.{asked_of-set, asked_of-same, label_at-set, keyed-set, settled-set}
 use Rattle.link_buckets.proofs.buckets.Buckets.remove_last.Goals as goal
@@ -27,7 +26,7 @@ returns-clause-definitions g c =
     let i = c.place_of-place.result in
     let b = c.index_mut-bucket.result.now in
     let is = slice_get_read bs (length bs) i b refl c.place_of-place.ensures.within c.index_mut-bucket.ensures.value in
-    let only : (asked : Key) → same_key (key_of c.args.name.now c.args.version) asked ≡ true → fnv_1a asked.name ≡ c.args.hash = λ asked same. ap (λ (k : Key). fnv_1a k.name) (sym (keys_equal (key_of c.args.name.now c.args.version) asked same)) ∙ sym c.requires.hashed in
+    let only : (asked : Key) → same_key (key_of c.args.name.now c.args.version) asked ≡ true → hash_of asked ≡ c.args.hash = λ asked same. ap hash_of (sym (keys_equal (key_of c.args.name.now c.args.version) asked same)) ∙ sym c.requires.hashed in
     asked_of-set (definitions_in names) [] bs c.args.hash i b c.remove_last.new.self (same_key (key_of c.args.name.now c.args.version)) (without_last 1) c.place_of-place.ensures.place is only c.remove_last.ensures.definitions
 
 pub returns-clause-overridden : goal.returns-clause-overridden

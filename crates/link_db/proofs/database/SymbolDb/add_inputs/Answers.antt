@@ -15,7 +15,7 @@ use Rattle.link_loader.specs.Causes.{TellsCause}
 use Rattle.link_loader.specs.Holds.{HoldsTexts, platform_of}
 use Rattle.link_loader.specs.ReadTexts.{ReadTexts, with_taken}
 use Rattle.link_db.specs.Seen.{seen}
-use Rattle.link_db.proofs.Causes.{empty-counted, few-scripts, neither, same-cause, tells-first, tells-other, tells-through}
+use Rattle.link_db.proofs.Causes.{empty-counted, few-scripts, neither, refused-not-ok, same-cause, tells-first, tells-other, tells-through}
 use Rattle.link_db.proofs.database.SymbolDb.add_inputs.Goals as goal
 
 pub read_scripts-requires : goal.read_scripts-requires
@@ -72,3 +72,7 @@ returns-clause-cause g c = λ batches held.
     held c.groups.ensures c.is_empty-is_late.ensures (ap (λ (f : HeldFiles g.row.P.Denot). f.groups) c.files.ensures) c.num_scripts-first.ensures c.as_slice-scripts.ensures in
     neither (linker_script_cause (not (is_empty batches)) old.rules.is_taken (length (flat_map (λ (b : Batch). b.scripts) batches)) c.args.inputs.scripts) other
     (sym same ∙ c.in_ok-script.ensures.cause) (c.in_ok-groups.ensures.cause batches held)
+
+-- a refused call, of which the clause says nothing
+pub returns-in_err-groups-clause-whole : goal.returns-in_err-groups-clause-whole
+returns-in_err-groups-clause-whole g c = refused-not-ok _ _ c.from_residual-in_err-groups.result c.from_residual-in_err-groups.ensures.0

@@ -1,4 +1,5 @@
-use Rattle.std.proofs.Common.{refl, true, arith}
+use Rattle.std.proofs.Common.{refl, true, arith, ap, length}
+use Rattle.std.proofs.lemmas.List.{length_push}
 use Rattle.link_script.proofs.Roomy.{keeps_room, no_room, room_parts}
 use Rattle.link_script.proofs.rules.BasicMatchRules.push.Goals as goal
 
@@ -23,14 +24,16 @@ returns-in_ok-insert-in-EscapedExact-clause-room c = λ ms room.
 pub returns-in_ok-push-in-NonstarGlob-clause-room : goal.returns-in_ok-push-in-NonstarGlob-clause-room
 returns-in_ok-push-in-NonstarGlob-clause-room c = λ ms room.
     let r = rw c.in-NonstarGlob.is at room in
-    let len = c.in_ok-push-in-NonstarGlob.ensures.len in
+    let len = ap length c.in_ok-push-in-NonstarGlob.ensures.ok in
+    let one = length_push c.args.self.now.nonstar_globs.items c.in-NonstarGlob.glob in
     let more = c.push.ensures.capacity in
     (refl, keeps_room ms _ c.args.self.now (record c.args.self.now { nonstar_globs = c.push.new.self }) r (λ asked has. has) (omega arith) (omega arith) (omega arith) (omega arith))
 
 pub returns-in_ok-push-in-StarGlob-clause-room : goal.returns-in_ok-push-in-StarGlob-clause-room
 returns-in_ok-push-in-StarGlob-clause-room c = λ ms room.
     let r = rw c.in-StarGlob.is at room in
-    let len = c.in_ok-push-in-StarGlob.ensures.len in
+    let len = ap length c.in_ok-push-in-StarGlob.ensures.ok in
+    let one = length_push c.args.self.now.star_globs.items c.in-StarGlob.glob in
     let more = c.push-in-StarGlob.ensures.capacity in
     (refl, keeps_room ms _ c.args.self.now (record c.args.self.now { star_globs = c.push-in-StarGlob.new.self }) r (λ asked has. has) (omega arith) (omega arith) (omega arith) (omega arith))
 

@@ -1,0 +1,144 @@
+//! An index over a list of globs, by the characters that a glob begins or ends with.
+
+ghost use Rattle.std.specs.Prelude.{◌≡◌, ◌∷◌, ◌++◌, [], ◌≤◌, ◌+◌, length, reverse, slice_get, OnOk, Some};
+ghost use Rattle.std.specs.Option.{MatchOption};
+ghost use Rattle.std.specs.Str.{chars};
+ghost use Rattle.link_glob.specs.GlobList.{last_of, fits_at, later};
+ghost use Rattle.link_glob.specs.GlobKey.{IsIndexOf, front_key, back_key, last_under, last_under_some};
+
+use crate::glob_key::{BACK_KEY, FRONT_KEY, key_of, key_with};
+use crate::matching::{split_first_char, split_last_char};
+use crate::pattern::Pattern;
+use std::alloc::{AllocError, Global};
+use std::collections::HashMap;
+
+/// The first globs of a list by their keys. A look-up asks for the key of each front of a name, and of each of its
+/// ends, and looks at the globs with one key from the last one back. Keys may coincide: a glob that is found is
+/// compared with the name.
+#[derive(Drop)]
+pub(crate) struct GlobIndex {
+    /// The number of the last glob of each key.
+    last: HashMap<u64, usize>,
+    /// Of each glob the number of the one before it that has its key.
+    earlier: Vec<Option<usize>>,
+}
+
+/// The later of two numbers, where there are both.
+fn later(first: Option<usize>, second: Option<usize>) -> Option<usize>
+    ensures { result ≡ later first second }
+{
+    match (first, second) {
+        (Some(first), Some(second)) => Some(first.max(second)),
+        (Some(first), None) => Some(first),
+        (None, second) => second,
+    }
+}
+
+impl GlobIndex {
+    /// The index of no globs. Takes no memory.
+    pub(crate) fn new(alloc: Global) -> GlobIndex
+        ensures { IsIndexOf [] result }
+    {
+        GlobIndex {
+            last: HashMap::new(alloc),
+            earlier: Vec::new(alloc),
+        }
+    }
+
+    /// How many globs are in it.
+    pub(crate) fn len(&self) -> usize
+        ensures { result ≡ length self.now.earlier.items }
+    {
+        self.earlier.len()
+    }
+
+    /// The last glob with this key that fits the name.
+    fn last_under(&self, globs: &[Pattern], key: u64, name: &str) -> Option<usize>
+        requires { IsIndexOf globs.now self.now }
+        ensures { result ≡ last_under globs.now key (chars name.now) (length self.now.earlier.items) }
+    {
+        let mut place = self.last.get(&key).copied();
+        'places: while let Some(at) = place {
+            if globs.get(at)?.matches(name) {
+                return Some(at);
+            }
+            place = *self.earlier.get(at)?;
+        }
+        None
+    }
+
+    /// The last glob under the key of some front of the name that fits the name.
+    fn last_by_front(&self, globs: &[Pattern], name: &str) -> Option<usize>
+        requires { IsIndexOf globs.now self.now }
+        ensures { result ≡ last_under_some globs.now front_key (chars name.now) (chars name.now) (length self.now.earlier.items) }
+    {
+        let mut key = FRONT_KEY;
+        let mut found = None;
+        let mut rest = name;
+        'fronts: loop {
+            found = later(found, self.last_under(globs, key, name));
+            let Some((c, after)) = split_first_char(rest) else {
+                return found;
+            };
+            key = key_with(key, c);
+            rest = after;
+        }
+    }
+
+    /// The last glob under the key of some end of the name that fits the name.
+    fn last_by_back(&self, globs: &[Pattern], name: &str) -> Option<usize>
+        requires { IsIndexOf globs.now self.now }
+        ensures { result ≡ last_under_some globs.now back_key (reverse (chars name.now)) (chars name.now) (length self.now.earlier.items) }
+    {
+        let mut key = BACK_KEY;
+        let mut found = None;
+        let mut rest = name;
+        'backs: loop {
+            found = later(found, self.last_under(globs, key, name));
+            let Some((c, before)) = split_last_char(rest) else {
+                return found;
+            };
+            key = key_with(key, c);
+            rest = before;
+        }
+    }
+
+    /// The last glob in the index that fits the name.
+    pub(crate) fn last_match(&self, globs: &[Pattern], name: &str) -> Option<usize>
+        requires { IsIndexOf globs.now self.now }
+        ensures { result ≡ last_of (fits_at globs.now (chars name.now)) (length self.now.earlier.items) }
+    {
+        if self.earlier.is_empty() {
+            return None;
+        }
+        later(
+            self.last_by_front(globs, name),
+            self.last_by_back(globs, name),
+        )
+    }
+
+    /// Adds the next glob.
+    fn add(&mut self, globs: &[Pattern], glob: &Pattern) -> Result<(), AllocError>
+        requires indexed { IsIndexOf globs.now self.old }
+        requires there { slice_get globs.now (length self.old.earlier.items) ≡ Some glob.now }
+        ensures kept { IsIndexOf globs.now self.new }
+        ensures added { OnOk result (length self.new.earlier.items ≡ length self.old.earlier.items + 1) }
+    {
+        self.earlier.reserve(1)?;
+        let place = self.earlier.len();
+        let before = self.last.insert(glob.key(), place)?;
+        self.earlier.push(before).unwrap();
+        Ok(())
+    }
+
+    /// Adds the globs that aren't in it.
+    pub(crate) fn add_all(&mut self, globs: &[Pattern]) -> Result<(), AllocError>
+        requires { IsIndexOf globs.now self.old }
+        ensures { IsIndexOf globs.now self.new }
+    {
+        'globs: while let Some(glob) = globs.get(self.earlier.len()) {
+            self.add(globs, glob)?;
+        }
+        Ok(())
+    }
+}
