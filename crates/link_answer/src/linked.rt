@@ -20,7 +20,6 @@ use std::alloc::{AllocError, Global};
 /// A link that is answered: its inputs, with which objects are loaded, which section groups are kept, and what each symbol means. It keeps columns by the
 /// places of objects and by the ids of symbols beside the files, so no name of a symbol is copied. A contract sees what `seen` tells of it, and `answer_of`
 /// of that is the answer.
-#[derive(Drop)]
 pub struct Linked<P: Platform> {
     db: SymbolDb<P>,
     /// Which objects are loaded, what their references stand for, how strongly symbols bind, and which section groups are kept.
@@ -39,6 +38,20 @@ pub struct Linked<P: Platform> {
       undefined = undefined.items;
       missing = missing.items;
     }) },
+}
+
+// By hand, so that what lets one go makes one call and does not name its parts.
+impl<P: Platform> Drop for Linked<P> {
+    fn drop(self) {
+        let Self {
+            db: _,
+            resolver: _,
+            flags: _,
+            versions: _,
+            undefined: _,
+            missing: _,
+        } = self;
+    }
 }
 
 /// The mark at this place; none is set past the end.

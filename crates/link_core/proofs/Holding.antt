@@ -23,16 +23,11 @@ use Rattle.link_rules.specs.World.{Stage, World, start_of, world_of}
 use Rattle.link_db.specs.Database.{Database}
 use Rattle.link_resolve.specs.Known.{Known}
 use Rattle.link_resolve.specs.Resolving.{Resolving}
-use Rattle.link_core.specs.Given.{given_in_batches}
+use Rattle.link_core.specs.Given.{given_in_batches, world_after}
 use Rattle.link_core.specs.Steps.{HasRoom, IsBefore, IsHeld, IsHeldAt, IsLoadedWith, IsOpenWith, IsReady, IsRefusedWith}
 use Rattle.link_core.proofs.Batches.{fails-behind}
 use Rattle.link_core.proofs.Passing.{before-first, before-next, few-known, ready-next}
 use Rattle.link_core.proofs.Refusing.{refused-by-batch}
-
--- the world of these batches with one more
-abbrev world_after : PlatformRules → (Bytes → Bytes) → Options → Scripts → List Batch → Batch → World
-world_after platform demangle options texts [] b = world_of platform demangle (given_in_batches b [] options texts)
-world_after platform demangle options texts (f ∷ fs) b = world_of platform demangle (given_in_batches f (fs ++ b ∷ []) options texts)
 
 -- why the link of some batches is refused
 abbrev pub IsRefusedOf : PlatformRules → (Bytes → Bytes) → Options → Scripts → LinkError → List Batch → Type 0
@@ -41,7 +36,7 @@ IsRefusedOf platform demangle options texts e (b ∷ bs) = IsRefusedWith (world_
 
 module _ {P : Type 0} (platform : PlatformRules) (demangle : Bytes → Bytes) (options : Options) (texts : Scripts) where
   -- what follows for one batch more, of whatever world it is the last
-  abbrev ForNext : Batch → Database P → List RawFlags → Known → (World → Type 0) → Type 0
+  abbrev pub ForNext : Batch → Database P → List RawFlags → Known → (World → Type 0) → Type 0
   ForNext b db words known Gives = (w : World) (done : List Batch) (before : Stage) → IsBefore platform demangle w done b before → IsReady platform w done before db (numbers_of words) known → Gives w
 
   -- it follows for the world of the batches that came and this one

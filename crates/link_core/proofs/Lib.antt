@@ -4,3 +4,5 @@ pub mod Refusing
 pub mod Passing
 pub mod Holding
 pub mod Answering
+pub mod Standing
+pub mod Cutting

@@ -1,2 +1,6 @@
 pub mod Given
 pub mod Steps
+pub mod SessionErrors
+pub mod Sessions
+pub mod Sizes
+pub mod Standing

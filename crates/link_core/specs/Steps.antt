@@ -1,5 +1,5 @@
 -- How far a link has come, batch by batch.
-use Rattle.std.specs.Prelude.{ℕ, ◌≡◌, ◌⊎◌, ◌+◌, ◌*◌, ◌<◌, ◌≤◌, ◌^◌, ◌&&◌, ◌++◌, Bool, List, [], ◌∷◌, filter, is_some, length, map, MatchOption, not, None, Ok, Err, Option}
+use Rattle.std.specs.Prelude.{ℕ, ◌≡◌, ◌⊎◌, ◌+◌, ◌*◌, ◌<◌, ◌^◌, ◌&&◌, ◌++◌, Bool, List, [], ◌∷◌, filter, is_some, length, map, not, None, Ok, Option}
 use Rattle.std.specs.List.{flat_map}
 use Rattle.link_flags.specs.declared.value_flags.RawFlags.{RawFlags}
 use Rattle.link_flags.specs.FlagWords.{numbers_of}
@@ -20,7 +20,7 @@ use Rattle.link_rules.specs.Loading.{IsLoaded}
 use Rattle.link_rules.specs.Marking.{flags_before, marked_flags}
 use Rattle.link_rules.specs.Orderly.{IsOrderly}
 use Rattle.link_rules.specs.Places.{Bytes, each_from, is_empty}
-use Rattle.link_rules.specs.Refusals.{duplicate_lines, empty_refusal, first_cause, group_refusal, limit_refusal, linker_script_cause, text_refusal, unless_none}
+use Rattle.link_rules.specs.Refusals.{duplicate_lines, first_cause, limit_refusal, linker_script_cause, text_refusal, unless_none}
 use Rattle.link_rules.specs.Rivals.{reference_table, versioned_table}
 use Rattle.link_rules.specs.Rules.{PlatformRules, rules_of, taken_text}
 use Rattle.link_rules.specs.Selection.{Selection, selection_of}

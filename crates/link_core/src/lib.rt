@@ -3,9 +3,16 @@
 
 mod adding;
 mod batch;
+mod batch_size;
 mod ending;
+mod held_link;
 mod link;
 mod opening;
+mod session;
+mod session_error;
 mod settling;
+mod standing_link;
 
 pub use link::{link_batches, link_symbols};
+pub use session::Session;
+pub use session_error::SessionError;

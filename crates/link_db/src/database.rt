@@ -16,7 +16,6 @@ use std::alloc::Global;
 
 /// The files of a link with their symbols, which of these define a name and what it is mapped to, what each symbol points to, and what the
 /// scripts say of names. Mirrors Wild's `SymbolDb`. A contract sees what `seen` tells of it.
-#[derive(Drop)]
 pub struct SymbolDb<P: Platform> {
     pub(crate) options: Options,
     pub(crate) rules: TextRules<P>,
@@ -25,6 +24,19 @@ pub struct SymbolDb<P: Platform> {
     /// What each symbol points to.
     pub(crate) table: Vec<SymbolId>,
     ghost sound: { IsSound (record { options = options; rules = rules; workers = workers; mapping = seen mapping; table = table.items }) },
+}
+
+// By hand, so that what lets one go makes one call and does not name its parts.
+impl<P: Platform> Drop for SymbolDb<P> {
+    fn drop(self) {
+        let Self {
+            options: _,
+            rules: _,
+            workers: _,
+            mapping: _,
+            table: _,
+        } = self;
+    }
 }
 
 impl<P: Platform> SymbolDb<P> {

@@ -1,11 +1,13 @@
 -- What the groups of batches hold, and groups that follow them.
-use Rattle.std.proofs.Common.{◌≡◌, ◌+◌, ◌++◌, ◌∙◌, ℕ, List, [], ◌∷◌, length, map, Option, Some, None, refl, ap, subst, arith}
+use Rattle.std.proofs.Common.{◌≡◌, ◌+◌, ◌++◌, ◌∙◌, ℕ, List, [], ◌∷◌, true, false, length, map, Option, Some, None, refl, ap, subst, arith}
+use Rattle.std.specs.Prelude.{not}
 use Rattle.std.specs.List.{cons_option, filter_map, flat_map, AllByRecursion}
 use Rattle.std.proofs.lemmas.List.{append-nil, map-append}
 use Rattle.std.proofs.lemmas.List.Concat.{flat_map-append}
 use Rattle.std.proofs.lemmas.List.Elements.{filter_map-append}
 use Rattle.link_input.specs.declared.options.Options.{Options}
-use Rattle.link_input.specs.InputFiles.{Batch, InputFile, prelude, object, linker_script, stub_library, synthetic, batch_files, input_files, object_count, section_count, stub_input, symbol_count}
+use Rattle.link_input.specs.InputFiles.{Batch, InputFile, prelude, object, linker_script, stub_library, synthetic, batch_files, input_files, object_count, section_count, stub_input, stub_symbol, symbol_count}
+use Rattle.link_input.specs.declared.world.StubLibrary.{StubLibrary}
 use Rattle.link_input.specs.Limits.{total}
 use Rattle.link_input.specs.ObjectFile.{ObjectFile}
 use Rattle.link_input.specs.SequencedFiles.{SequencedFile, sequenced}
@@ -16,9 +18,10 @@ use Rattle.link_groups.specs.Groups.{RunsFrom, files_of}
 use Rattle.link_groups.specs.Held.{AreGroupsOf}
 use Rattle.link_groups.proofs.AddsLemmas.{file-sequenced}
 use Rattle.link_files.specs.GroupFiles.{AreGroupsOfLink, symbols_in}
-use Rattle.link_files.specs.Inputs.{object_of, objects_in, script_of, scripts_in}
+use Rattle.link_files.specs.Inputs.{names_of, object_of, objects_in, script_of, scripts_in, stub_of, stubs_in}
 use Rattle.link_files.specs.Numbered.{spans_of}
 use Rattle.link_files.proofs.Batches.{all-left, of-link}
+use Rattle.link_files.proofs.ObjectCounts.{objects-counted}
 use Rattle.link_files.proofs.Numbered.{bare, id_count, runs-split, symbols-append, tabled-count}
 
 -- no groups have no symbol
@@ -70,6 +73,39 @@ scripts-of-batch b =
     picked-parts script_of b [] b.scripts [] (picked-none script_of object (λ o. refl) b.objects) (picked-all script_of linker_script (λ s. refl) b.scripts) (picked-none script_of stub_input (λ s. refl) b.stubs)
     ∙ append-nil b.scripts
 
+-- no weak symbol is a strong one
+strong-none : (weak : List (List ℕ)) → names_of (λ s. not s.is_weak) (map (stub_symbol true) weak) ≡ []
+strong-none [] = refl
+strong-none (y ∷ ys) = strong-none ys
+
+-- the strong names of a stub library are told from the weak ones
+strong-names : (strong weak : List (List ℕ)) → names_of (λ s. not s.is_weak) (map (stub_symbol false) strong ++ map (stub_symbol true) weak) ≡ strong
+strong-names [] weak = strong-none weak
+strong-names (x ∷ xs) weak = ap (λ l. x ∷ l) (strong-names xs weak)
+
+-- all weak symbols are weak ones
+weak-all : (weak : List (List ℕ)) → names_of (λ s. s.is_weak) (map (stub_symbol true) weak) ≡ weak
+weak-all [] = refl
+weak-all (y ∷ ys) = ap (λ l. y ∷ l) (weak-all ys)
+
+-- and the weak names from the strong ones
+weak-names : (strong weak : List (List ℕ)) → names_of (λ s. s.is_weak) (map (stub_symbol false) strong ++ map (stub_symbol true) weak) ≡ weak
+weak-names [] weak = weak-all weak
+weak-names (x ∷ xs) weak = weak-names xs weak
+
+-- so the library is told by its file
+stub-told : (s : StubLibrary) → stub_of (stub_input s) ≡ Some s
+stub-told s =
+    let strong = strong-names s.strong s.weak in
+    let weak = weak-names s.strong s.weak in
+    ap (λ (l : List (List ℕ)). Some (record s { strong = l; weak = names_of (λ x. x.is_weak) (map (stub_symbol false) s.strong ++ map (stub_symbol true) s.weak) })) strong
+    ∙ ap (λ (l : List (List ℕ)). Some (record s { weak = l })) weak
+
+-- the stub libraries of a batch
+stubs-of-batch : (b : Batch) → filter_map stub_of (batch_files b) ≡ b.stubs
+stubs-of-batch b =
+    picked-parts stub_of b [] [] b.stubs (picked-none stub_of object (λ o. refl) b.objects) (picked-none stub_of linker_script (λ s. refl) b.scripts) (picked-all stub_of stub_input stub-told b.stubs)
+
 -- what is picked of the groups of batches
 picked-groups : {P X : Type 0} (pick : InputFile → Option X) (own : Batch → List X) → ((b : Batch) → filter_map pick (batch_files b) ≡ own b) → ((options : Options) (bs : List Batch) → filter_map pick (input_files options bs) ≡ filter_map pick (flat_map batch_files bs))
     → (options : Options) (batches : List Batch) (groups : List (Group P)) → AreGroupsOf options batches groups → filter_map (λ (f : SequencedFile). pick f.file) (flat_map files_of groups) ≡ flat_map own batches
@@ -86,17 +122,9 @@ objects-of-batches options batches groups h = picked-groups object_of (λ (b : B
 pub scripts-of-batches : {P : Type 0} (options : Options) (batches : List Batch) (groups : List (Group P)) → AreGroupsOf options batches groups → scripts_in groups ≡ flat_map (λ b. b.scripts) batches
 scripts-of-batches options batches groups h = picked-groups script_of (λ (b : Batch). b.scripts) scripts-of-batch (λ o bs. refl) options batches groups h
 
--- objects are counted as they are picked
-objects-counted : (fs : List SequencedFile) → total object_count (bare fs) ≡ length (filter_map (λ (f : SequencedFile). object_of f.file) fs)
-objects-counted [] = refl
-objects-counted (f ∷ fs) = by-kind f.file (filter_map (λ (g : SequencedFile). object_of g.file) fs) (total object_count (bare fs)) (objects-counted fs)
-  where
-    by-kind : (k : InputFile) (rest : List ObjectFile) (n : ℕ) → n ≡ length rest → object_count k + n ≡ length (cons_option (object_of k) rest)
-    by-kind (prelude symbols) rest n e = omega (arith, e)
-    by-kind (object o) rest n e = omega (arith, e)
-    by-kind (linker_script d) rest n e = omega (arith, e)
-    by-kind (stub_library input symbols) rest n e = omega (arith, e)
-    by-kind synthetic rest n e = omega (arith, e)
+-- and the stub libraries
+pub stubs-of-batches : {P : Type 0} (options : Options) (batches : List Batch) (groups : List (Group P)) → AreGroupsOf options batches groups → stubs_in groups ≡ flat_map (λ b. b.stubs) batches
+stubs-of-batches options batches groups h = picked-groups stub_of (λ (b : Batch). b.stubs) stubs-of-batch (λ o bs. refl) options batches groups h
 
 -- the symbols of groups and of others that follow them
 pub symbols-join : {P : Type 0} (old new : List (Group P)) → symbols_in (old ++ new) ≡ symbols_in old ++ symbols_of (length (objects_in old)) (bare (flat_map files_of new))

@@ -1,3 +1,4 @@
+pub mod ObjectCounts
 pub mod Places
 pub mod Numbers
 pub mod Numbered

@@ -1,22 +1,25 @@
 -- The file of a symbol.
-use Rattle.std.proofs.Common.{◌≡◌, ◌+◌, ◌-◌, ◌<◌, ◌≤◌, ◌∙◌, ◌^◌, ℕ, zero, suc, List, [], ◌∷◌, length, map, get_or, Some, refl, sym, ap, subst, arith, length-append}
-use Rattle.std.specs.Prelude.{IfSome, IsTrue, is_some, slice_get}
+use Rattle.std.proofs.Common.{◌≡◌, ◌+◌, ◌-◌, ◌<◌, ◌≤◌, ◌∙◌, ◌^◌, ℕ, zero, suc, List, [], ◌∷◌, length, map, get_or, Option, Some, refl, sym, ap, subst, arith, length-append}
+use Rattle.std.specs.Prelude.{IfSome, IsTrue, is_some, option_and_then, slice_get}
 use Rattle.std.specs.List.{flat_map}
 use Rattle.std.proofs.lemmas.List.{length-map}
 use Rattle.std.proofs.lemmas.Option.{same_Some, slice_get_read, slice_get_within}
-use Rattle.link_ids.specs.Span.{IsInside}
+use Rattle.link_ids.specs.FilePlace.{FilePlace}
+use Rattle.link_ids.specs.Span.{IsInside, offset_in}
 use Rattle.link_input.specs.SequencedFiles.{SequencedFile}
-use Rattle.link_input.specs.Symbols.{Symbol}
+use Rattle.link_input.specs.Symbols.{Symbol, object_in}
 use Rattle.link_groups.specs.declared.group.Group.{Group}
 use Rattle.link_groups.specs.Groups.{RunsFrom, files_of}
 use Rattle.link_files.specs.declared.starts.FileStart.{FileStart}
 use Rattle.link_files.specs.GroupFiles.{IsFileOf, file_at, symbols_in}
 use Rattle.link_files.specs.HeldFiles.{HeldFiles, names_in}
+use Rattle.link_files.specs.Inputs.{objects_before}
 use Rattle.link_files.specs.Numbered.{AreHeld, spans_of}
 use Rattle.link_files.specs.Starts.{IsLastFrom, starts_of}
+use Rattle.link_files.proofs.Entries.{object-told}
 use Rattle.link_files.proofs.Numbered.{id_count, id-count-append, is-there, numbered-count, run-last, run-within}
 use Rattle.link_files.proofs.Numbers.{held-at}
-use Rattle.link_files.proofs.Places.{length-all-starts, start-file}
+use Rattle.link_files.proofs.Places.{length-all-starts, start-file, start-object}
 
 -- each symbol has a name
 pub names-count : {P : Type 0} (held : HeldFiles P) → length (names_in held) ≡ length (symbols_in held.groups) + length held.added
@@ -51,9 +54,14 @@ pub few-read : {P : Type 0} (held : HeldFiles P) (starts : List FileStart) → A
 few-read held starts h number place g f some read is =
     omega (arith, few-in held.groups number place f (file-read held.groups number place g f some read is), ids-count held starts h, h.fits)
 
+-- the file that is found for a symbol: it has the symbol, and if it is an object, so many stand before it
+pub record IsFound {P : Type 0} (groups : List (Group P)) (id : ℕ) (place : FilePlace) : Type 0 where
+  pub file : IsFileOf groups id place
+  pub object : IfSome (option_and_then (λ (x : Symbol). object_in x.origin) (slice_get (symbols_in groups) id)) (λ n. n ≡ objects_before groups place)
+
 -- the last file that begins at a symbol or before it has the symbol
 has-symbol : {P : Type 0} (held : HeldFiles P) → AreHeld held (starts_of held.groups) → (id k : ℕ) → IsLastFrom (starts_of held.groups) id k → id < length (names_in held)
-    → (x : FileStart) → slice_get (starts_of held.groups) k ≡ Some x → x.start ≤ id → IsFileOf held.groups id x.id
+    → (x : FileStart) → slice_get (starts_of held.groups) k ≡ Some x → x.start ≤ id → IsFound held.groups id x.id
 has-symbol {P} held h id k last lt x is from =
     let groups = held.groups in
     let fs = flat_map (λ (g : Group P). files_of g) groups in
@@ -69,11 +77,15 @@ has-symbol {P} held h id k last lt x is from =
     let all : id < 0 + id_count fs = omega (arith, lt, ids-count held (starts_of groups) h) in
     let inside : IsInside f.symbols id = (omega (arith, from, s.1.1.1), run-within 0 fs h.numbered.runs k f s.1.0 id all next) in
     let r = is-there fs (length held.added) h.numbered k f s.1.0 id inside in
-    (f, (s.1.1.0, record { inside = inside; ids = r.ids; before = r.before; same = r.same }))
+    record {
+      file = (f, (s.1.1.0, record { inside = inside; ids = r.ids; before = r.before; same = r.same }));
+      object = subst (λ (o : Option Symbol). IfSome (option_and_then (λ (y : Symbol). object_in y.origin) o) (λ n. n ≡ objects_before groups x.id)) (sym r.same)
+          (object-told r.before f.file (offset_in f.symbols id) (objects_before groups x.id) (λ o some. r.counted ∙ start-object groups k x h.places is f s.1.0 o some));
+    }
 
 -- the file that is found for a symbol has it
 pub found-file : {P : Type 0} (held : HeldFiles P) (starts : List FileStart) → AreHeld held starts → (id k : ℕ) → IsLastFrom starts id k → id < length (names_in held)
-    → (x : FileStart) → slice_get starts k ≡ Some x → IsFileOf held.groups id x.id
+    → (x : FileStart) → slice_get starts k ≡ Some x → IsFound held.groups id x.id
 found-file {P} held starts h id k last lt x is =
     let same : last.file ≡ x = same_Some last.file x (sym last.here ∙ is) in
     let from : x.start ≤ id = subst (λ (y : FileStart). y.start ≤ id) same last.from in

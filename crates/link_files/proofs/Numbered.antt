@@ -1,9 +1,9 @@
 -- Files whose symbols have ids one after another.
-use Rattle.std.proofs.Common.{◌≡◌, ◌+◌, ◌-◌, ◌<◌, ◌≤◌, ◌++◌, ◌∙◌, ℕ, zero, suc, List, [], ◌∷◌, length, map, Some, refl, sym, ap, subst, arith, length-append}
+use Rattle.std.proofs.Common.{◌≡◌, ◌+◌, ◌-◌, ◌<◌, ◌≤◌, ◌++◌, ◌∙◌, ℕ, zero, suc, List, [], ◌∷◌, length, map, Some, refl, sym, ap, subst, arith, length-append, take}
 use Rattle.std.specs.Prelude.{slice_get}
 use Rattle.std.specs.List.{AllByRecursion}
-use Rattle.std.proofs.lemmas.List.{append_assoc, append-nil, map-append}
-use Rattle.std.proofs.lemmas.Option.{same_Some, slice_get_past}
+use Rattle.std.proofs.lemmas.List.{append_assoc, append-nil, map-append, take-append-le}
+use Rattle.std.proofs.lemmas.Option.{same_Some, slice_get_past, slice_get_within}
 use Rattle.link_ids.specs.Span.{Span, IsInside, offset_in}
 use Rattle.link_input.specs.InputFiles.{InputFile, prelude, object, linker_script, stub_library, synthetic, object_count, symbol_count}
 use Rattle.link_input.specs.Limits.{total}
@@ -15,6 +15,7 @@ use Rattle.link_groups.proofs.Cutting.{total-append}
 use Rattle.link_groups.proofs.Numbering.{own-symbols}
 use Rattle.link_files.specs.Numbered.{AreNumbered, HasNoTable, spans_of}
 use Rattle.link_files.proofs.Numbers.{held-at}
+use Rattle.link_files.proofs.ObjectCounts.{count_of}
 use Rattle.link_files.proofs.Places.{get-left, get-right, get-split}
 
 -- the files themselves, without their ids
@@ -93,20 +94,22 @@ run-within n (x ∷ y ∷ ys) runs zero f is id lt next = subst (λ (g : Sequenc
 run-within n (x ∷ xs) runs (suc k) f is id lt next = run-within (n + x.symbols.len) xs runs.1 k f is id (omega (arith, lt)) next
 
 -- where a symbol stands: in its file, and among all
-record Stands (n : ℕ) (fs : List SequencedFile) (s : ℕ) (f : SequencedFile) (j : ℕ) : Type 0 where
+record Stands (n : ℕ) (fs : List SequencedFile) (s k : ℕ) (f : SequencedFile) (j : ℕ) : Type 0 where
   pub before : ℕ
+  pub counted : before ≡ n + count_of (take k fs)
   pub symbol : Symbol
   pub here : slice_get (file_symbols before f.file) j ≡ Some symbol
   pub among : (at : ℕ) → s + at ≡ f.symbols.start + j → slice_get (symbols_of n (bare fs)) at ≡ Some symbol
 
 -- each symbol of a file with a table stands at the place of its id
-tabled-stands : (n s : ℕ) (fs : List SequencedFile) → AllByRecursion HasIdsForAll fs → RunsFrom s (spans_of fs) → (k : ℕ) (f : SequencedFile) → slice_get fs k ≡ Some f → (j : ℕ) → j < f.symbols.len → Stands n fs s f j
+tabled-stands : (n s : ℕ) (fs : List SequencedFile) → AllByRecursion HasIdsForAll fs → RunsFrom s (spans_of fs) → (k : ℕ) (f : SequencedFile) → slice_get fs k ≡ Some f → (j : ℕ) → j < f.symbols.len → Stands n fs s k f j
 tabled-stands n s [] tables runs k f is j lt = cc
 tabled-stands n s (x ∷ xs) tables runs zero f is j lt =
     let same = same_Some x f is in
     let less : j < x.symbols.len = subst (λ (g : SequencedFile). j < g.symbols.len) (sym same) lt in
-    subst (λ (g : SequencedFile). Stands n (x ∷ xs) s g j) same (held-at (file_symbols n x.file) j (omega (arith, less, tables.0, own-symbols n x.file)) (λ y found. record {
+    subst (λ (g : SequencedFile). Stands n (x ∷ xs) s zero g j) same (held-at (file_symbols n x.file) j (omega (arith, less, tables.0, own-symbols n x.file)) (λ y found. record {
       before = n;
+      counted = omega arith;
       symbol = y;
       here = found;
       among = λ at e.
@@ -120,6 +123,7 @@ tabled-stands n s (x ∷ xs) tables runs (suc k) f is j lt =
     let from = run-from (s + x.symbols.len) xs runs.1 k f is in
     record {
       before = r.before;
+      counted = omega (arith, r.counted);
       symbol = r.symbol;
       here = r.here;
       among = λ at e.
@@ -152,13 +156,14 @@ ids-of-table (stub_library input symbols) len all = all
 ids-of-table synthetic len all = tt
 
 -- a symbol of a file stands where its id says, or in no table
-pub record IsThere (fs : List SequencedFile) (f : SequencedFile) (id : ℕ) : Type 0 where
+pub record IsThere (fs : List SequencedFile) (k : ℕ) (f : SequencedFile) (id : ℕ) : Type 0 where
   pub ids : AreIdsOf f.file f.symbols.len
   pub before : ℕ
+  pub counted : before ≡ count_of (take k fs)
   pub same : slice_get (symbols_of 0 (bare fs)) id ≡ slice_get (file_symbols before f.file) (offset_in f.symbols id)
 
 -- each symbol of each file does
-pub is-there : (fs : List SequencedFile) (added : ℕ) → AreNumbered fs added → (k : ℕ) (f : SequencedFile) → slice_get fs k ≡ Some f → (id : ℕ) → IsInside f.symbols id → IsThere fs f id
+pub is-there : (fs : List SequencedFile) (added : ℕ) → AreNumbered fs added → (k : ℕ) (f : SequencedFile) → slice_get fs k ≡ Some f → (id : ℕ) → IsInside f.symbols id → IsThere fs k f id
 is-there fs added h k f is id inside =
     let all : symbols_of 0 (bare fs) ≡ symbols_of 0 (bare h.tabled) = ap (λ (l : List SequencedFile). symbols_of 0 (bare l)) h.joined ∙ tabled-symbols h.tabled h.behind h.others in
     let runs = runs-split 0 h.tabled h.behind (subst (λ (l : List SequencedFile). RunsFrom 0 (spans_of l)) h.joined h.runs) in
@@ -170,6 +175,9 @@ is-there fs added h k f is id inside =
     record {
       ids = ids-of-table f.file f.symbols.len (all-at HasIdsForAll h.tabled h.tables k f here);
       before = r.before;
+      counted =
+          let front : take k (h.tabled ++ h.behind) ≡ take k h.tabled = take-append-le k h.tabled h.behind (omega (arith, slice_get_within h.tabled k f here)) in
+          omega (arith, r.counted, ap (λ (l : List SequencedFile). count_of (take k l)) h.joined, ap count_of front);
       same = ap (λ (l : List Symbol). slice_get l id) all ∙ (r.among id at ∙ sym r.here);
     })
     (λ j e there.
@@ -178,6 +186,7 @@ is-there fs added h k f is id inside =
     let past : length (symbols_of 0 (bare h.tabled)) ≤ id = omega (arith, from, inside.0, tabled-count 0 h.tabled h.tables) in
     record {
       ids = own.1;
-      before = 0;
-      same = ap (λ (l : List Symbol). slice_get l id) all ∙ (slice_get_past (symbols_of 0 (bare h.tabled)) id past ∙ ap (λ (l : List Symbol). slice_get l (offset_in f.symbols id)) (sym (no-symbol 0 f.file own.0)));
+      before = count_of (take k fs);
+      counted = refl;
+      same = ap (λ (l : List Symbol). slice_get l id) all ∙ (slice_get_past (symbols_of 0 (bare h.tabled)) id past ∙ ap (λ (l : List Symbol). slice_get l (offset_in f.symbols id)) (sym (no-symbol (count_of (take k fs)) f.file own.0)));
     })

@@ -1,5 +1,5 @@
 -- How many files of a kind are among those of groups.
-use Rattle.std.proofs.Common.{◌≡◌, ◌+◌, ◌<◌, ◌≤◌, ◌++◌, ◌∙◌, ℕ, suc, List, [], ◌∷◌, drop, get_or, length, map, Option, Some, None, refl, sym, ap, arith, length-append}
+use Rattle.std.proofs.Common.{◌≡◌, ◌+◌, ◌<◌, ◌≤◌, ◌++◌, ◌∙◌, ℕ, zero, suc, List, [], ◌∷◌, drop, get_or, length, map, Option, Some, None, refl, sym, take, ap, arith, length-append}
 use Rattle.std.specs.List.{cons_option, filter_map, flat_map}
 use Rattle.std.proofs.Math.Seq.{drop-cons}
 use Rattle.std.proofs.lemmas.List.{append-nil}
@@ -85,3 +85,10 @@ no-scripts {P} (group.Objects objects) other = sym (picked-other script_of (λ (
 no-scripts (group.LinkerScripts scripts) other = absurd (other scripts refl)
 no-scripts (group.StubLibraries stubs) other = sym (picked-other script_of stub_file (λ s. refl) stubs)
 no-scripts (group.SyntheticSymbols s) other = refl
+
+-- no more objects stand in the first groups than in all
+pub few-before : {P : Type 0} (groups : List (Group P)) (n : ℕ) → length (objects_in (take n groups)) ≤ length (objects_in groups)
+few-before [] zero = omega arith
+few-before [] (suc n) = omega arith
+few-before (g ∷ gs) zero = omega arith
+few-before (g ∷ gs) (suc n) = omega (arith, picked-first object_of g (take n gs), picked-first object_of g gs, few-before gs n)

@@ -1,9 +1,14 @@
 -- Where the files of groups stand.
-use Rattle.std.proofs.Common.{◌≡◌, ◌+◌, ◌++◌, ◌∙◌, ℕ, zero, suc, List, [], ◌∷◌, length, map, Some, refl, sym, ap, arith, length-append}
+use Rattle.std.proofs.Common.{◌≡◌, ◌+◌, ◌++◌, ◌∙◌, ℕ, zero, suc, List, [], ◌∷◌, length, map, Some, refl, sym, ap, arith, length-append, take}
 use Rattle.std.specs.Prelude.{slice_get, option_map, option_and_then}
 use Rattle.std.specs.List.{flat_map}
-use Rattle.std.proofs.lemmas.Option.{same_Some, slice_get-map}
+use Rattle.std.proofs.Math.Seq.{take-append-add}
+use Rattle.std.proofs.lemmas.List.{map-append, take-append-le}
+use Rattle.std.proofs.lemmas.Option.{same_Some, slice_get-map, slice_get_within}
 use Rattle.link_ids.specs.FilePlace.{FilePlace}
+use Rattle.link_input.specs.InputFiles.{object_count}
+use Rattle.link_input.specs.Limits.{total}
+use Rattle.link_input.specs.ObjectFile.{ObjectFile}
 use Rattle.link_input.specs.SequencedFiles.{SequencedFile}
 use Rattle.link_groups.specs.declared.group.Group.{Group}
 use Rattle.link_groups.specs.declared.group.Group.TheVariants as group
@@ -12,9 +17,12 @@ use Rattle.link_groups.specs.declared.sequenced.SequencedLinkerScript.{Sequenced
 use Rattle.link_groups.specs.declared.sequenced.SequencedStubLibrary.{SequencedStubLibrary}
 use Rattle.link_groups.specs.Groups.{files_of, file_ids, object_file, script_file, stub_file}
 use Rattle.link_groups.specs.FileIds.{HavePlaces}
+use Rattle.link_groups.proofs.Cutting.{total-append}
 use Rattle.link_files.specs.declared.starts.FileStart.{FileStart}
 use Rattle.link_files.specs.Starts.{start_of, group_starts, starts_of}
 use Rattle.link_files.specs.GroupFiles.{file_at}
+use Rattle.link_files.specs.Inputs.{object_of, objects_before, objects_in}
+use Rattle.link_files.proofs.ObjectCounts.{count_of, object-in-group, objects-counted}
 
 -- an element of the first of two lists stands at its place
 pub get-left : {A : Type 0} (xs ys : List A) (i : ℕ) (x : A) → slice_get xs i ≡ Some x → slice_get (xs ++ ys) i ≡ Some x
@@ -77,6 +85,7 @@ pub record IsInGroup {P : Type 0} (groups : List (Group P)) (k : ℕ) (x : FileS
   pub held : slice_get groups number ≡ Some group
   pub found : IsStart (files_of group) (file_ids group) place x
   pub file : slice_get (flat_map files_of groups) k ≡ Some found.file
+  pub before : (o : ObjectFile) → object_of found.file.file ≡ Some o → count_of (take k (flat_map files_of groups)) ≡ length (objects_in (take number groups)) + place
 
 -- lists that are mapped from one list are as long
 same-lengths : {A B C : Type 0} (f : A → B) (g : A → C) (xs : List A) → length (map f xs) ≡ length (map g xs)
@@ -97,12 +106,26 @@ get-split [] ys i x is left right = right i (omega arith) is
 get-split (z ∷ zs) ys zero x is left right = left is
 get-split (z ∷ zs) ys (suc i) x is left right = get-split zs ys i x is left (λ j e found. right j (omega (arith, e)) found)
 
+-- objects of files and of others
+count-append : (xs ys : List SequencedFile) → count_of (xs ++ ys) ≡ count_of xs + count_of ys
+count-append xs ys = ap (total object_count) (map-append (λ (f : SequencedFile). f.file) xs ys) ∙ total-append object_count (map (λ (f : SequencedFile). f.file) xs) (map (λ (f : SequencedFile). f.file) ys)
+
 -- the start at a place of all groups
 pub start-in : {P : Type 0} (groups : List (Group P)) (k : ℕ) (x : FileStart) → slice_get (starts_of groups) k ≡ Some x → IsInGroup groups k x
 start-in [] k x is = cc
 start-in {P} (g ∷ gs) k x is = get-split (group_starts g) (starts_of gs) k x is
     (λ here. let r = group-start g k x here in
-    record { number = 0; place = k; group = g; held = refl; found = r; file = get-left (files_of g) (flat_map files_of gs) k r.file r.there })
+    let front = λ (o : ObjectFile) (some : object_of r.file.file ≡ Some o).
+    take-append-le k (files_of g) (flat_map files_of gs) (omega (arith, slice_get_within (files_of g) k r.file r.there)) in
+    record {
+      number = 0;
+      place = k;
+      group = g;
+      held = refl;
+      found = r;
+      file = get-left (files_of g) (flat_map files_of gs) k r.file r.there;
+      before = λ o some. omega (arith, ap count_of (front o some), object-in-group g k r.file o r.there some);
+    })
     (λ j e there. let r = start-in gs j x there in
     let at : k ≡ length (files_of g) + j = e ∙ ap (λ n. n + j) (length-starts g) in
     record {
@@ -112,18 +135,39 @@ start-in {P} (g ∷ gs) k x is = get-split (group_starts g) (starts_of gs) k x i
       held = r.held;
       found = r.found;
       file = ap (slice_get (files_of g ++ flat_map files_of gs)) at ∙ get-right (files_of g) (flat_map files_of gs) j ∙ r.file;
+      before = λ o some.
+          let fs = files_of g in
+          let rest = flat_map (λ (h : Group P). files_of h) gs in
+          let earlier = flat_map (λ (h : Group P). files_of h) (take r.number gs) in
+          let files : take k (fs ++ rest) ≡ fs ++ take j rest = ap (λ n. take n (fs ++ rest)) at ∙ take-append-add fs rest j in
+          let all : count_of (take k (fs ++ rest)) ≡ count_of fs + count_of (take j rest) = ap count_of files ∙ count-append fs (take j rest) in
+          let both : length (objects_in (g ∷ take r.number gs)) ≡ count_of fs + length (objects_in (take r.number gs)) =
+          sym (objects-counted (fs ++ earlier)) ∙ (count-append fs earlier ∙ ap (λ n. count_of fs + n) (objects-counted earlier)) in
+          omega (arith, all, both, r.before o some);
     })
+
+-- its id is that place
+start-id : {P : Type 0} (groups : List (Group P)) (k : ℕ) (x : FileStart) → HavePlaces groups → (r : IsInGroup groups k x) → x.id ≡ record { group = r.number; file = r.place }
+start-id {P} groups k x places r =
+    places r.number r.place (file_ids r.group) x.id (slice_get-map (λ (g : Group P). file_ids g) groups r.number ∙ ap (option_map (λ (g : Group P). file_ids g)) r.held) r.found.id
 
 -- the file of a start's id is the one that stands at the same place among all files
 pub start-file : {P : Type 0} (groups : List (Group P)) (k : ℕ) (x : FileStart) → HavePlaces groups → slice_get (starts_of groups) k ≡ Some x
     → (f : SequencedFile) × ((slice_get (flat_map files_of groups) k ≡ Some f) × ((file_at groups x.id ≡ Some f) × (f.symbols.start ≡ x.start)))
 start-file {P} groups k x places is =
     let r = start-in groups k x is in
-    let id : x.id ≡ record { group = r.number; file = r.place } =
-    places r.number r.place (file_ids r.group) x.id (slice_get-map (λ (g : Group P). file_ids g) groups r.number ∙ ap (option_map (λ (g : Group P). file_ids g)) r.held) r.found.id in
+    let id = start-id groups k x places r in
     let at : file_at groups (record { group = r.number; file = r.place }) ≡ Some r.found.file =
     ap (option_and_then (λ (g : Group P). slice_get (files_of g) r.place)) r.held ∙ r.found.there in
     (r.found.file, (r.file, (ap (λ (i : FilePlace). file_at groups i) id ∙ at, r.found.start)))
+
+-- if it is an object, so many objects stand before it
+pub start-object : {P : Type 0} (groups : List (Group P)) (k : ℕ) (x : FileStart) → HavePlaces groups → slice_get (starts_of groups) k ≡ Some x → (f : SequencedFile) → slice_get (flat_map files_of groups) k ≡ Some f
+    → (o : ObjectFile) → object_of f.file ≡ Some o → count_of (take k (flat_map files_of groups)) ≡ objects_before groups x.id
+start-object groups k x places is f there o some =
+    let r = start-in groups k x is in
+    let same : r.found.file ≡ f = same_Some r.found.file f (sym r.file ∙ there) in
+    r.before o (ap (λ (g : SequencedFile). object_of g.file) same ∙ some) ∙ ap (λ (i : FilePlace). objects_before groups i) (sym (start-id groups k x places r))
 
 -- as many starts as files
 pub length-all-starts : {P : Type 0} (groups : List (Group P)) → length (starts_of groups) ≡ length (flat_map files_of groups)

@@ -8,7 +8,7 @@ use Rattle.link_flags.specs.declared.visibility.Visibility.TheVariants.{Default}
 use Rattle.link_input.specs.declared.internal_symbols.InternalSymDefInfo.{InternalSymDefInfo}
 use Rattle.link_input.specs.declared.symbol_entry.SymbolEntry.{SymbolEntry}
 use Rattle.link_input.specs.Entries.{is_undefined}
-use Rattle.link_input.specs.Symbols.{binding_strength, entry_passes, is_shared, visibility_in}
+use Rattle.link_input.specs.Symbols.{binding_strength, entry_passes, is_shared, object_in, visibility_in}
 use Rattle.link_groups.specs.declared.group.Group.{Group}
 use Rattle.link_files.specs.GroupFiles.{symbols_in}
 use Rattle.link_files.specs.Origins.{definition_in, entry_in}
@@ -33,6 +33,10 @@ strength_of held id = option_map_or (λ x. binding_strength x.origin) (slice_get
 -- the symbol stands in a shared object or in a stub library
 abbrev pub is_shared_in : {P : Type 0} → HeldFiles P → ℕ → Bool
 is_shared_in held id = option_map_or (λ x. is_shared x.origin) (slice_get (symbols_in held.groups) id) false
+
+-- the place of the symbol's object among all objects, where it stands in one
+abbrev pub object_with : {P : Type 0} → HeldFiles P → ℕ → Option ℕ
+object_with held id = option_and_then (λ x. object_in x.origin) (slice_get (symbols_in held.groups) id)
 
 -- the entry of the symbol, where it stands in an object
 abbrev pub entry_of : {P : Type 0} → HeldFiles P → ℕ → Option SymbolEntry

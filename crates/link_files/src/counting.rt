@@ -1,10 +1,12 @@
-//! How many files of a kind a link holds.
+//! How many files of a kind a link holds, and how many stand before another.
 
-ghost use Rattle.std.specs.Prelude.{◌≡◌, ◌<◌, ◌^◌, [], ◌∷◌, length};
+ghost use Rattle.std.specs.Prelude.{◌≡◌, ◌<◌, ◌^◌, [], ◌∷◌, length, take};
+ghost use Rattle.link_files.specs.HeldFiles.{names_in, object_with};
 ghost use Rattle.link_files.specs.Inputs.{objects_in, scripts_in};
 
 use crate::files::Files;
-use link_groups::Group;
+use link_groups::{Group, SequencedInput};
+use link_ids::SymbolId;
 use link_input::Platform;
 
 /// How many objects a group has.
@@ -57,6 +59,29 @@ impl<P: Platform> Files<P> {
         ensures { result ≡ length (objects_in self.now.groups) }
     {
         objects_of_groups(self.groups.as_slice())
+    }
+
+    /// How many objects stand in the groups before this one.
+    fn objects_before_group(&self, group: usize) -> usize
+        ensures value { result ≡ length (objects_in (take group self.now.groups)) }
+        ensures fits { result < 2 ^ 63 }
+    {
+        let (before, _) = self.groups.split_at(group.min(self.groups.len()));
+        objects_of_groups(before)
+    }
+
+    /// The place of the symbol's object among all objects, regular and shared ones. None where the symbol stands in no object.
+    pub fn object_of(&self, id: SymbolId) -> Option<usize>
+        requires { id < length (names_in self.now) }
+        ensures { result ≡ object_with self.now id }
+    {
+        let place = self.file_id_for_symbol(id);
+        match self.file(place) {
+            SequencedInput::Object(_) => {
+                Some(self.objects_before_group(place.group()) + place.file())
+            }
+            _ => None,
+        }
     }
 
     /// How many linker scripts there are.

@@ -35,10 +35,11 @@ impl<P: Platform> Model for Files<P> {
 }
 
 impl<P: Platform> Files<P> {
-    ghost use Rattle.std.specs.Prelude.{◌++◌, [], ◌<◌, ◌^◌, List, OnOk, OnErr, Some, is_some, IsTrue, length, slice_get};
+    ghost use Rattle.std.specs.Prelude.{◌++◌, [], ◌<◌, ◌^◌, IfSome, List, OnOk, OnErr, Some, is_some, IsTrue, length, slice_get};
     ghost use Rattle.link_groups.specs.SequencedInputs.{sequenced_file};
     ghost use Rattle.link_files.specs.GroupFiles.{AreGroupsOfLink, IsFileOf, IsIn, file_at, symbols_in};
-    ghost use Rattle.link_files.specs.HeldFiles.{names_in};
+    ghost use Rattle.link_files.specs.HeldFiles.{names_in, object_with};
+    ghost use Rattle.link_files.specs.Inputs.{objects_before};
 
     /// No files. Takes no memory.
     pub fn new(alloc: Global) -> Self
@@ -95,7 +96,8 @@ impl<P: Platform> Files<P> {
     /// The file that has the symbol.
     pub fn file_id_for_symbol(&self, id: SymbolId) -> FileId
         requires { id < length (names_in self.now) }
-        ensures { IsFileOf self.now.groups id result }
+        ensures file { IsFileOf self.now.groups id result }
+        ensures object { IfSome (object_with self.now id) (λ place. place ≡ objects_before self.now.groups result) }
     {
         self.starts[place_of(self.starts.as_slice(), id)].id
     }

@@ -18,7 +18,7 @@ pub enum OutputKind {
 }
 
 /// The options of a link.
-#[derive(Debug, Drop)]
+#[derive(Debug)]
 pub struct Options {
     pub output: OutputKind,
     /// The name of the entry point (`--entry`).
@@ -43,6 +43,26 @@ pub struct Options {
     pub custom_sections: Seq<Name>,
     /// Names are shown demangled.
     pub demangle: bool,
+}
+
+// By hand, so that what lets one go makes one call and does not name its parts.
+impl Drop for Options {
+    fn drop(self) {
+        let Self {
+            output: _,
+            entry: _,
+            default_entry: _,
+            allow_multiple: _,
+            files_per_group: _,
+            wrap: _,
+            force_undefined: _,
+            force_export: _,
+            defsym: _,
+            linker_symbols: _,
+            custom_sections: _,
+            demangle: _,
+        } = self;
+    }
 }
 
 impl Options {

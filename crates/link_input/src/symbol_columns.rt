@@ -11,7 +11,7 @@ use std::marker::Model;
 
 /// A symbol table with the names and versions of all symbols in one block of bytes, and a column for each other field. A
 /// contract sees the list of its entries.
-#[derive(Debug, Drop)]
+#[derive(Debug)]
 pub struct SymbolColumns {
     /// The bytes of all names, and those of all versions behind them.
     block: Vec<u8>,
@@ -23,6 +23,23 @@ pub struct SymbolColumns {
     kinds: Vec<SymbolKind>,
     sizes: Vec<u64>,
     places: Vec<Place>,
+}
+
+// By hand, so that what lets one go makes one call and does not name its parts.
+impl Drop for SymbolColumns {
+    fn drop(self) {
+        let Self {
+            block: _,
+            names: _,
+            versions: _,
+            defaults: _,
+            bindings: _,
+            visibilities: _,
+            kinds: _,
+            sizes: _,
+            places: _,
+        } = self;
+    }
 }
 
 impl Model for SymbolColumns {

@@ -25,7 +25,6 @@ use std::mem;
 
 /// What the texts of a link on a platform say of names: its version script, and its export list with the forced export names.
 /// A contract sees what was read. Mirrors what Wild's `SymbolDb` keeps of them.
-#[derive(Drop)]
 pub struct TextRules<P: Platform> {
     version_script: VersionScript,
     /// The names of a script of the Rust form, to be looked up.
@@ -34,6 +33,19 @@ pub struct TextRules<P: Platform> {
     is_taken: bool,
     export_list: Option<ExportList>,
     platform: PhantomData<P>,
+}
+
+// By hand, so that what lets one go makes one call and does not name its parts.
+impl<P: Platform> Drop for TextRules<P> {
+    fn drop(self) {
+        let Self {
+            version_script: _,
+            listed: _,
+            is_taken: _,
+            export_list: _,
+            platform: _,
+        } = self;
+    }
 }
 
 impl<P: Platform> Model for TextRules<P> {

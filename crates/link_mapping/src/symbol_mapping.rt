@@ -14,11 +14,20 @@ use std::alloc::{AllocError, Global};
 
 /// The files of a link, and for each name the symbols that define it and the one that it is mapped to. Mirrors what Wild's `SymbolDb`
 /// holds of names. A contract sees what `seen` tells of it.
-#[derive(Drop)]
 pub struct SymbolMapping<P: Platform> {
     pub(crate) tables: NameTables<P>,
     pub(crate) buckets: Buckets,
     ghost named: { AreNamed tables.files tables.overridden.items buckets },
+}
+
+// By hand, so that what lets one go makes one call and does not name its parts.
+impl<P: Platform> Drop for SymbolMapping<P> {
+    fn drop(self) {
+        let Self {
+            tables: _,
+            buckets: _,
+        } = self;
+    }
 }
 
 impl<P: Platform> SymbolMapping<P> {

@@ -42,11 +42,21 @@ use std::thread::Threads;
 
 /// What is known of a link, batch by batch: which objects are loaded, what the references of these stand for, how strongly each symbol
 /// binds, and which section groups are kept. Mirrors Wild's `Resolver`.
-#[derive(Drop)]
 pub struct Resolver {
     pub(crate) resolved: Resolved,
     pub(crate) groups: LoadedGroups,
     pub(crate) closed: Option<Closed>,
+}
+
+// By hand, so that what lets one go makes one call and does not name its parts.
+impl Drop for Resolver {
+    fn drop(self) {
+        let Self {
+            resolved: _,
+            groups: _,
+            closed: _,
+        } = self;
+    }
 }
 
 /// The loaded objects, and what the references of these stand for, by what was known before the batch.

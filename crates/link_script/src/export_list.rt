@@ -55,11 +55,21 @@ fn some_fits(rules: &MatchRules, name: &Lookup) -> bool
 
 /// Which names are exported, as an export list of GNU ld or of Mach-O says, and names that options add. Mirrors Wild's
 /// `ExportList`.
-#[derive(Drop)]
 pub struct ExportList {
     alloc: Global,
     rules: MatchRules,
     required: Seq<Name>,
+}
+
+// By hand, so that what lets one go makes one call and does not name its parts.
+impl Drop for ExportList {
+    fn drop(self) {
+        let Self {
+            alloc: _,
+            rules: _,
+            required: _,
+        } = self;
+    }
 }
 
 impl ExportList {

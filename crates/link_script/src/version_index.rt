@@ -15,7 +15,6 @@ use link_names::{Name, NameMap, Seq};
 use std::alloc::{AllocError, Global};
 
 /// The numbers of the versions of a script by what is looked up, so that no look-up goes over all versions.
-#[derive(Drop)]
 pub struct VersionIndex {
     /// The last version of each name.
     named: NameMap<u16>,
@@ -29,6 +28,20 @@ pub struct VersionIndex {
     star: ClassGlobs,
     /// The versions that have a bare star.
     every: Seq<u16>,
+}
+
+// By hand, so that what lets one go makes one call and does not name its parts.
+impl Drop for VersionIndex {
+    fn drop(self) {
+        let Self {
+            named: _,
+            plain: _,
+            cxx: _,
+            nonstar: _,
+            star: _,
+            every: _,
+        } = self;
+    }
 }
 
 /// The smaller of two numbers, where there are both.

@@ -22,7 +22,6 @@ use link_symbols::ObjectSymbols;
 
 /// The work of a link over its database, as threads share it: items of the objects' tables, what is loaded whatever refers to it, and the
 /// flags with which symbols begin. What an item asks for is looked up as it is read.
-#[derive(Drop)]
 pub struct LinkPlan<'a, P: Platform> {
     pub(crate) db: &'a SymbolDb<P>,
     /// What the references of earlier batches stand for.
@@ -46,4 +45,22 @@ pub struct LinkPlan<'a, P: Platform> {
         (map mark_of_pair root_marks.items) opening.items) },
     ghost does_fit: { FitsU32 (planned (known_by P.WEAK_SYMBOLS_OVERRIDE_COMMON (seen db.now) sources.items settled.now) objects.items items.items roots.items
         (map mark_of_pair root_marks.items) opening.items) },
+}
+
+// By hand, so that what lets one go makes one call and does not name its parts.
+impl<P: Platform> Drop for LinkPlan<'_, P> {
+    fn drop(self) {
+        let Self {
+            db: _,
+            settled: _,
+            sources: _,
+            objects: _,
+            items: _,
+            firsts: _,
+            is_root: _,
+            roots: _,
+            root_marks: _,
+            opening: _,
+        } = self;
+    }
 }

@@ -1,5 +1,4 @@
-use Rattle.std.proofs.Common.{◌≡◌, ◌∙◌, ◌⊎◌, ◌<◌, ◌≤◌, ◌++◌, ℕ, List, [], ◌∷◌, Option, Some, None, Ok, Err, ap, arith, inl, inr, length, not, refl, subst, sym}
-use Rattle.link_files.specs.GroupFiles.{symbols_in}
+use Rattle.std.proofs.Common.{◌≡◌, ◌∙◌, ◌++◌, [], ◌∷◌, Ok, Err, ap, arith, length, not, subst, sym}
 use Rattle.link_flags.specs.FlagWords.{numbers_of, words_of}
 use Rattle.link_groups.specs.Held.{AreGroupsOf}
 use Rattle.link_input.specs.InputFiles.{batch_of}
@@ -11,7 +10,6 @@ use Rattle.link_rules.specs.World.{with_batch}
 use Rattle.link_rules.specs.Selection.{selection_of}
 use Rattle.link_rules.proofs.Existence.{orderly-loads}
 use Rattle.link_rules.proofs.Stages.{orderly-grows}
-use Rattle.link_symbols.specs.Lookups.{AreBelow}
 use Rattle.link_db.specs.Database.{Database, symbol_names}
 use Rattle.link_db.specs.Seen.{seen}
 use Rattle.link_resolve.specs.Known.{IsListed}

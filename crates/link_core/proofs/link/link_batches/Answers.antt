@@ -9,7 +9,7 @@ use Rattle.link_rules.specs.Refusals.{text_refusal}
 use Rattle.link_rules.specs.World.{World, world_of}
 use Rattle.link_db.specs.Seen.{seen}
 use Rattle.link_core.specs.Given.{given_in_batches}
-use Rattle.link_core.proofs.Holding.{all-came, ends-open, fails-open, few-left, few-open, groups-open, held-all, IsRefusedOf, open-next}
+use Rattle.link_core.proofs.Holding.{all-came, ends-open, fails-open, few-left, groups-open, held-all, IsRefusedOf, open-next}
 use Rattle.link_core.proofs.Passing.{err-into, ok-into, refused-by, refused-through}
 use Rattle.link_core.proofs.Refusing.{refused-by-text}
 use Rattle.link_core.proofs.link.link_batches.Goals as goal

@@ -23,11 +23,20 @@ place_of-requires-clause-some g c =
 pub index-requires : goal.index-requires
 index-requires g c = omega (arith, slice_get_within c.as_slice.result.now c.place_of.result c.place_of.ensures.file c.place_of.ensures.here, c.as_slice.ensures.len)
 
-pub returns : goal.returns
-returns g c =
+pub returns-clause-file : goal.returns-clause-file
+returns-clause-file g c =
     let starts = c.self.inside.starts.items in
     let found : AreHeld c.args.self.now starts = subst (λ (held : HeldFiles g.row.P.Denot). AreHeld held starts) c.self.view_is c.self.invariant in
     let last : IsLastFrom starts c.args.id c.place_of.result = subst (λ (l : List FileStart). IsLastFrom l c.args.id c.place_of.result) c.as_slice.ensures.value c.place_of.ensures in
     let within = slice_get_within starts c.place_of.result last.file last.here in
-    found-file c.args.self.now starts found c.args.id c.place_of.result last c.requires c.index.result.now
-    (slice_get_read starts (length starts) c.place_of.result c.index.result.now refl within c.index.ensures)
+    (found-file c.args.self.now starts found c.args.id c.place_of.result last c.requires c.index.result.now
+    (slice_get_read starts (length starts) c.place_of.result c.index.result.now refl within c.index.ensures)).file
+
+pub returns-clause-object : goal.returns-clause-object
+returns-clause-object g c =
+    let starts = c.self.inside.starts.items in
+    let found : AreHeld c.args.self.now starts = subst (λ (held : HeldFiles g.row.P.Denot). AreHeld held starts) c.self.view_is c.self.invariant in
+    let last : IsLastFrom starts c.args.id c.place_of.result = subst (λ (l : List FileStart). IsLastFrom l c.args.id c.place_of.result) c.as_slice.ensures.value c.place_of.ensures in
+    let within = slice_get_within starts c.place_of.result last.file last.here in
+    (found-file c.args.self.now starts found c.args.id c.place_of.result last c.requires c.index.result.now
+    (slice_get_read starts (length starts) c.place_of.result c.index.result.now refl within c.index.ensures)).object

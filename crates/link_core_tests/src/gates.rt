@@ -1,0 +1,37 @@
+//! Gates that tell what threads do.
+
+use link_claim::Gate;
+use std::sync::atomic::{AtomicU64, Ordering};
+
+/// It lets a thread through once so many have come, or after many turns.
+#[derive(Drop)]
+pub(crate) struct Meeting {
+    pub(crate) wanted: u64,
+    pub(crate) came: AtomicU64,
+    pub(crate) late: AtomicU64,
+}
+
+impl Meeting {
+    /// It waits for so many.
+    pub(crate) fn of(wanted: u64) -> Meeting {
+        Meeting {
+            wanted,
+            came: AtomicU64::new(0),
+            late: AtomicU64::new(0),
+        }
+    }
+}
+
+impl Gate for Meeting {
+    fn before(&self, _item: usize) {
+        self.came.fetch_add(1, Ordering::SeqCst);
+        for _ in 0..100_000_000u64 {
+            if self.came.load(Ordering::SeqCst) >= self.wanted {
+                return;
+            }
+        }
+        self.late.fetch_add(1, Ordering::SeqCst);
+    }
+
+    fn after(&self, _item: usize) {}
+}
