@@ -2,7 +2,7 @@
 use Rattle.std.proofs.Common.{◌≡◌, ◌<◌, ◌∙◌, ℕ, zero, suc, Bool, List, [], ◌∷◌, length, map, slice_get, Option, Some, option_map, refl, ap, sym, subst, arith}
 use Rattle.std.specs.List.{zip, All, AllZip}
 use Rattle.std.proofs.lemmas.List.{length-map}
-use Rattle.std.proofs.lemmas.Option.{slice_get-map, slice_get_within, get_or_from_slice_get}
+use Rattle.std.proofs.lemmas.Option.{same_Some, slice_get-get_or, slice_get-map, slice_get_within, get_or_from_slice_get}
 use Rattle.std.proofs.lemmas.Slice.Zip.{AllZip-long}
 use Rattle.link_flags.specs.declared.visibility.Visibility.{Visibility}
 use Rattle.link_input.specs.declared.symbol_entry.SymbolEntry.{SymbolEntry}
@@ -12,7 +12,7 @@ use Rattle.link_input.specs.declared.symbol_entry.Place.{Place}
 use Rattle.link_input.specs.declared.name_block.Span.{Span}
 use Rattle.link_input.specs.declared.symbol_columns.SymbolColumns.TheInside.{Inside}
 use Rattle.link_input.specs.NameBlock.{bytes_at, IsAt, IsVersionAt}
-use Rattle.link_input.specs.Columns.{entry_of, side_by_side, entries_of, AreColumns}
+use Rattle.link_input.specs.Columns.{entry_at, entry_of, null_entry, side_by_side, entries_of, AreColumns}
 use Rattle.link_input.proofs.InBlock.{names_read, versions_read, names_inside, versions_inside}
 
 -- the fields of entries side by side are the entries
@@ -37,13 +37,13 @@ zip_at (a ∷ xs) (b ∷ ys) zero x y at with = cc
 zip_at (a ∷ xs) (b ∷ ys) (suc i) x y at with = zip_at xs ys i x y at with
 
 -- the entry at a place has the fields that stand there
-pub entry_at : (names : List (List ℕ)) (versions : List (Option (List ℕ))) (defaults : List Bool) (bindings : List SymbolBinding) (visibilities : List Visibility)
+pub fields_at : (names : List (List ℕ)) (versions : List (Option (List ℕ))) (defaults : List Bool) (bindings : List SymbolBinding) (visibilities : List Visibility)
     (kinds : List SymbolKind) (sizes : List ℕ) (places : List Place) (i : ℕ) (e : SymbolEntry)
     → slice_get names i ≡ Some e.name → slice_get versions i ≡ Some e.version → slice_get defaults i ≡ Some e.is_default
     → slice_get bindings i ≡ Some e.binding → slice_get visibilities i ≡ Some e.visibility → slice_get kinds i ≡ Some e.kind
     → slice_get sizes i ≡ Some e.size → slice_get places i ≡ Some e.place
     → slice_get (side_by_side names versions defaults bindings visibilities kinds sizes places) i ≡ Some e
-entry_at names versions defaults bindings visibilities kinds sizes places i e n v d b w k z p =
+fields_at names versions defaults bindings visibilities kinds sizes places i e n v d b w k z p =
     let seven = zip_at sizes places i _ _ z p in
     let six = zip_at kinds (zip sizes places) i _ _ k seven in
     let five = zip_at visibilities (zip kinds (zip sizes places)) i _ _ w six in
@@ -154,7 +154,7 @@ pub row_of : (c : Inside) (i : ℕ) (span : Span) (version : Option Span) (e : S
     → slice_get c.kinds.items i ≡ Some e.kind → slice_get c.sizes.items i ≡ Some e.size → slice_get c.places.items i ≡ Some e.place
     → slice_get (entries_of c) i ≡ Some e
 row_of c i span version e at name at_version is_version d b w k z p =
-    entry_at (map (bytes_at c.block.items) c.names.items) (map (option_map (bytes_at c.block.items)) c.versions.items)
+    fields_at (map (bytes_at c.block.items) c.names.items) (map (option_map (bytes_at c.block.items)) c.versions.items)
     c.defaults.items c.bindings.items c.visibilities.items c.kinds.items c.sizes.items c.places.items i e
     (slice_get-map (bytes_at c.block.items) c.names.items i ∙ ap (option_map (bytes_at c.block.items)) at ∙ ap Some (sym name))
     (slice_get-map (option_map (bytes_at c.block.items)) c.versions.items i ∙ ap (option_map (option_map (bytes_at c.block.items))) at_version ∙ ap Some (sym is_version))
@@ -166,11 +166,27 @@ there [] i lt = absurd (omega arith)
 there (x ∷ xs) zero lt = (x, refl)
 there (x ∷ xs) (suc i) lt = there xs i (omega (arith, lt))
 
--- the name of the entry at a place is what the first column has there
-pub name_of : (c : Inside) (es : List SymbolEntry) (i : ℕ) (span : Span) → entries_of c ≡ es → AreColumns c → i < length es → slice_get c.names.items i ≡ Some span
-    → option_map (λ (e : SymbolEntry). e.name) (slice_get es i) ≡ Some (bytes_at c.block.items span)
-name_of c es i span view are within at =
+-- the entry at a place, and what the columns have of it there
+pub record RowAt (c : Inside) (es : List SymbolEntry) (i : ℕ) : Type 0 where
+  pub entry : SymbolEntry
+  pub here : slice_get es i ≡ Some entry
+  pub span : Span
+  pub at : slice_get c.names.items i ≡ Some span
+  pub name : entry.name ≡ bytes_at c.block.items span
+  pub version_span : Option Span
+  pub version_at : slice_get c.versions.items i ≡ Some version_span
+  pub version : entry.version ≡ option_map (bytes_at c.block.items) version_span
+  pub is_default : slice_get c.defaults.items i ≡ Some entry.is_default
+  pub binding : slice_get c.bindings.items i ≡ Some entry.binding
+  pub visibility : slice_get c.visibilities.items i ≡ Some entry.visibility
+  pub kind : slice_get c.kinds.items i ≡ Some entry.kind
+  pub size : slice_get c.sizes.items i ≡ Some entry.size
+  pub place : slice_get c.places.items i ≡ Some entry.place
+
+pub row_at : (c : Inside) (es : List SymbolEntry) (i : ℕ) → entries_of c ≡ es → AreColumns c → i < length es → RowAt c es i
+row_at c es i view are within =
     let h = has_place c es i view are within in
+    let name = there c.names.items i h.names in
     let version = there c.versions.items i h.versions in
     let is_default = there c.defaults.items i h.defaults in
     let binding = there c.bindings.items i h.bindings in
@@ -179,7 +195,7 @@ name_of c es i span view are within at =
     let size = there c.sizes.items i h.sizes in
     let place = there c.places.items i h.places in
     let e : SymbolEntry = record {
-      name = bytes_at c.block.items span;
+      name = bytes_at c.block.items name.0;
       version = option_map (bytes_at c.block.items) version.0;
       is_default = is_default.0;
       binding = binding.0;
@@ -188,5 +204,25 @@ name_of c es i span view are within at =
       size = size.0;
       place = place.0;
     } in
-    subst (λ (xs : List SymbolEntry). option_map (λ (x : SymbolEntry). x.name) (slice_get xs i) ≡ Some (bytes_at c.block.items span)) view
-    (ap (option_map (λ (x : SymbolEntry). x.name)) (row_of c i span version.0 e at refl version.1 refl is_default.1 binding.1 visibility.1 kind.1 size.1 place.1))
+    record {
+      entry = e;
+      here = subst (λ (xs : List SymbolEntry). slice_get xs i ≡ Some e) view
+          (row_of c i name.0 version.0 e name.1 refl version.1 refl is_default.1 binding.1 visibility.1 kind.1 size.1 place.1);
+      span = name.0;
+      at = name.1;
+      name = refl;
+      version_span = version.0;
+      version_at = version.1;
+      version = refl;
+      is_default = is_default.1;
+      binding = binding.1;
+      visibility = visibility.1;
+      kind = kind.1;
+      size = size.1;
+      place = place.1;
+    }
+
+-- a field of the entry at a place is what is read of it
+pub field_of : {A : Type 0} (field : SymbolEntry → A) (es : List SymbolEntry) (i : ℕ) (e : SymbolEntry) (x : A) → entry_at es i ≡ e → i < length es → option_map field (slice_get es i) ≡ Some x → x ≡ field e
+field_of field es i e x is within read =
+    same_Some x (field e) (sym read ∙ (ap (option_map field) (slice_get-get_or es i null_entry within) ∙ ap (λ (y : SymbolEntry). Some (field y)) is))

@@ -1,11 +1,15 @@
 -- The entries of a symbol table that is kept in columns.
-use Rattle.std.specs.Prelude.{ℕ, ◌≡◌, Bool, List, length, map, Option, Some, option_map, All}
+use Rattle.std.specs.Prelude.{ℕ, ◌≡◌, Bool, true, List, [], get_or, length, map, Option, None, Some, option_map, All}
 use Rattle.std.specs.List.{zip}
 use Rattle.link_flags.specs.declared.visibility.Visibility.{Visibility}
+use Rattle.link_flags.specs.declared.visibility.Visibility.TheVariants.{Default}
 use Rattle.link_input.specs.declared.symbol_entry.SymbolEntry.{SymbolEntry}
 use Rattle.link_input.specs.declared.symbol_entry.SymbolBinding.{SymbolBinding}
+use Rattle.link_input.specs.declared.symbol_entry.SymbolBinding.TheVariants.{Local}
 use Rattle.link_input.specs.declared.symbol_entry.SymbolKind.{SymbolKind}
+use Rattle.link_input.specs.declared.symbol_entry.SymbolKind.TheVariants.{Plain}
 use Rattle.link_input.specs.declared.symbol_entry.Place.{Place}
+use Rattle.link_input.specs.declared.symbol_entry.Place.TheVariants.{Undefined}
 use Rattle.link_input.specs.declared.name_block.Span.{Span}
 use Rattle.link_input.specs.declared.symbol_columns.SymbolColumns.TheInside.{Inside}
 use Rattle.link_input.specs.NameBlock.{bytes_at, IsInside}
@@ -41,3 +45,11 @@ pub record AreColumns (c : Inside) : Type 0 where
   pub kinds : length c.kinds.items ≡ length c.names.items
   pub sizes : length c.sizes.items ≡ length c.names.items
   pub places : length c.places.items ≡ length c.names.items
+
+-- the null entry (ELF gABI, "Symbol Table", index 0)
+abbrev pub null_entry : SymbolEntry
+null_entry = record { name = []; version = None; is_default = true; binding = Local; visibility = Default; kind = Plain; size = 0; place = Undefined }
+
+-- the entry at a place; there is one at each place of a table
+abbrev pub entry_at : List SymbolEntry → ℕ → SymbolEntry
+entry_at es i = get_or es i null_entry

@@ -80,7 +80,7 @@ fn lacks_null(has_null: bool, symbols: &[SymbolEntry]) -> bool
     ensures { result ≡ lacks_null has_null symbols.now }
 {
     match symbols {
-        [first, ..] => has_null && !first.row().is_null(),
+        [first, ..] => has_null && !first.is_null(),
         [] => false,
     }
 }

@@ -162,7 +162,7 @@ impl<P: Platform> InputObject<P> {
         requires { place < length self.now.symbols }
         ensures { slice_get self.now.symbols place ≡ Some result }
     {
-        self.symbols.row(place)
+        SymbolRow::new(&self.symbols, place)
     }
 
     /// The name of the entry at this place of its symbol table. `num_symbols` is the test.
@@ -179,7 +179,7 @@ impl<P: Platform> InputObject<P> {
         ensures place { option_map (λ symbol. section_of symbol.place) (slice_get self.now.symbols index) ≡ Some result }
         ensures below { IfSome result (λ section. section < self.now.sections) }
     {
-        self.symbols.row(index.as_usize()).section()
+        self.symbols.place(index.as_usize()).section()
     }
 
     /// The section group at this place: its signature is a symbol of the object, and its header and members are sections

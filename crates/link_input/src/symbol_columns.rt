@@ -4,7 +4,6 @@ ghost use Rattle.std.specs.Prelude.{◌≡◌, ◌<◌, Some, IfOk, length, map,
 
 use crate::name_block::{Span, bytes_at, put_names, put_versions, version_at};
 use crate::symbol_entry::{Place, SymbolBinding, SymbolEntry, SymbolKind};
-use crate::symbol_row::SymbolRow;
 use link_flags::Visibility;
 use std::alloc::{AllocError, Global};
 use std::marker::Model;
@@ -133,7 +132,7 @@ impl SymbolColumns {
         self.names.len()
     }
 
-    /// The name of the entry at a place, for who looks names up: a whole row reads from each column. `len` is the test.
+    /// The name of the entry at a place. `len` is the test, here and below.
     pub fn name(&self, index: usize) -> &[u8]
         requires { index < length self.now }
         ensures { option_map (λ e. e.name) (slice_get self.now index) ≡ Some result.now }
@@ -141,21 +140,59 @@ impl SymbolColumns {
         bytes_at(self.block.as_slice(), field_at(&self.names, index))
     }
 
-    /// The entry at a place. `len` is the test.
-    pub fn row(&self, index: usize) -> SymbolRow<'_>
+    /// Its version, where it has one.
+    pub fn version(&self, index: usize) -> Option<&[u8]>
         requires { index < length self.now }
-        ensures { slice_get self.now index ≡ Some result }
+        ensures { option_map (λ e. e.version) (slice_get self.now index) ≡ Some (option_map (λ bytes. bytes.now) result) }
     {
-        let block = self.block.as_slice();
-        SymbolRow {
-            name: bytes_at(block, field_at(&self.names, index)),
-            version: version_at(block, field_at(&self.versions, index)),
-            is_default: field_at(&self.defaults, index),
-            binding: field_at(&self.bindings, index),
-            visibility: field_at(&self.visibilities, index),
-            kind: field_at(&self.kinds, index),
-            size: field_at(&self.sizes, index),
-            place: field_at(&self.places, index),
-        }
+        version_at(self.block.as_slice(), field_at(&self.versions, index))
+    }
+
+    /// Whether it stands for its plain name too.
+    pub fn is_default(&self, index: usize) -> bool
+        requires { index < length self.now }
+        ensures { option_map (λ e. e.is_default) (slice_get self.now index) ≡ Some result }
+    {
+        field_at(&self.defaults, index)
+    }
+
+    /// How it binds.
+    pub fn binding(&self, index: usize) -> SymbolBinding
+        requires { index < length self.now }
+        ensures { option_map (λ e. e.binding) (slice_get self.now index) ≡ Some result }
+    {
+        field_at(&self.bindings, index)
+    }
+
+    /// How far it can be seen.
+    pub fn visibility(&self, index: usize) -> Visibility
+        requires { index < length self.now }
+        ensures { option_map (λ e. e.visibility) (slice_get self.now index) ≡ Some result }
+    {
+        field_at(&self.visibilities, index)
+    }
+
+    /// What it is.
+    pub fn kind(&self, index: usize) -> SymbolKind
+        requires { index < length self.now }
+        ensures { option_map (λ e. e.kind) (slice_get self.now index) ≡ Some result }
+    {
+        field_at(&self.kinds, index)
+    }
+
+    /// Its size in bytes.
+    pub fn size(&self, index: usize) -> u64
+        requires { index < length self.now }
+        ensures { option_map (λ e. e.size) (slice_get self.now index) ≡ Some result }
+    {
+        field_at(&self.sizes, index)
+    }
+
+    /// Where it stands.
+    pub fn place(&self, index: usize) -> Place
+        requires { index < length self.now }
+        ensures { option_map (λ e. e.place) (slice_get self.now index) ≡ Some result }
+    {
+        field_at(&self.places, index)
     }
 }

@@ -53,3 +53,19 @@ pub struct SymbolEntry {
     pub size: u64,
     pub place: Place,
 }
+
+impl SymbolEntry {
+    ghost use Rattle.std.specs.Prelude.{◌≡◌};
+    ghost use Rattle.link_input.specs.Checks.{is_null};
+
+    /// It stands for no symbol, as `SymbolRow::is_null` says.
+    pub fn is_null(&self) -> bool
+        ensures { result ≡ is_null self.now }
+    {
+        self.place.is_undefined()
+            && self.binding.is_local()
+            && self.name.is_empty()
+            && matches!(self.visibility, Visibility::Default)
+            && self.version.is_none()
+    }
+}

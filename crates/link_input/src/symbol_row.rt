@@ -1,60 +1,58 @@
 //! An entry of a symbol table, as a table lends it.
 
-ghost use Rattle.std.specs.Prelude.{◌≡◌, option_map};
+ghost use Rattle.std.specs.Prelude.{◌≡◌, ◌<◌, Some, length, slice_get};
 ghost use Rattle.link_input.specs.Entries.{is_undefined, is_absolute, is_common, section_of, is_func, is_ifunc, is_tls, is_local, is_weak, is_hidden};
 ghost use Rattle.link_input.specs.BindingStrength.{binding_strength};
 ghost use Rattle.link_input.specs.Checks.{is_null};
 
-use crate::symbol_entry::{Place, SymbolBinding, SymbolEntry, SymbolKind};
+use crate::symbol_columns::SymbolColumns;
+use crate::symbol_entry::{Place, SymbolBinding, SymbolKind};
 use link_flags::{SymbolStrength, Visibility};
 use link_ids::SectionIndex;
 use link_names::NameView;
 use std::marker::Model;
 
-/// An entry of a symbol table, its name and version lent by the table. A contract sees the entry.
-#[derive(Debug, Drop)]
+/// An entry of a symbol table, as the table lends it: a field is read from its column when it is asked for, so a pass over a table reads no column that
+/// it doesn't ask for. A contract sees the entry.
+#[derive(Drop)]
 pub struct SymbolRow<'a> {
-    pub(crate) name: &'a [u8],
-    pub(crate) version: Option<&'a [u8]>,
-    pub(crate) is_default: bool,
-    pub(crate) binding: SymbolBinding,
-    pub(crate) visibility: Visibility,
-    pub(crate) kind: SymbolKind,
-    pub(crate) size: u64,
-    pub(crate) place: Place,
+    columns: &'a SymbolColumns,
+    place: usize,
 }
 
 impl<'a> Model for SymbolRow<'a> {
-    ghost use Rattle.std.specs.Prelude.{option_map};
+    ghost use Rattle.std.specs.Prelude.{◌<◌, length};
     ghost use Rattle.link_input.specs.declared.symbol_entry.SymbolEntry.{SymbolEntry};
+    ghost use Rattle.link_input.specs.Columns.{entry_at};
 
     ghost Value = { SymbolEntry };
 
-    ghost view = { λ r. record {
-      name = r.name.now;
-      version = option_map (λ bytes. bytes.now) r.version;
-      is_default = r.is_default;
-      binding = r.binding;
-      visibility = r.visibility;
-      kind = r.kind;
-      size = r.size;
-      place = r.place;
-    } };
+    ghost view = { λ r. entry_at r.columns.now r.place };
+
+    ghost invariant = { λ r. r.place < length r.columns.now };
 }
 
 impl<'a> SymbolRow<'a> {
+    /// The entry at a place of columns. `len` is the test.
+    pub(crate) fn new(columns: &'a SymbolColumns, place: usize) -> Self
+        requires { place < length columns.now }
+        ensures { slice_get columns.now place ≡ Some result }
+    {
+        SymbolRow { columns, place }
+    }
+
     /// Its name.
     pub fn name(&self) -> NameView<'a>
         ensures { result ≡ self.now.name }
     {
-        NameView::new(self.name)
+        NameView::new(self.columns.name(self.place))
     }
 
     /// The version that stood behind an `@` of the name.
     pub fn version(&self) -> Option<NameView<'a>>
         ensures { result ≡ self.now.version }
     {
-        match self.version {
+        match self.columns.version(self.place) {
             Some(bytes) => Some(NameView::new(bytes)),
             None => None,
         }
@@ -64,42 +62,42 @@ impl<'a> SymbolRow<'a> {
     pub fn is_default(&self) -> bool
         ensures { result ≡ self.now.is_default }
     {
-        self.is_default
+        self.columns.is_default(self.place)
     }
 
     /// How it binds.
     pub fn binding(&self) -> SymbolBinding
         ensures { result ≡ self.now.binding }
     {
-        self.binding
+        self.columns.binding(self.place)
     }
 
     /// How far it can be seen.
     pub fn visibility(&self) -> Visibility
         ensures { result ≡ self.now.visibility }
     {
-        self.visibility
+        self.columns.visibility(self.place)
     }
 
     /// What it is.
     pub fn kind(&self) -> SymbolKind
         ensures { result ≡ self.now.kind }
     {
-        self.kind
+        self.columns.kind(self.place)
     }
 
     /// Its size in bytes.
     pub fn size(&self) -> u64
         ensures { result ≡ self.now.size }
     {
-        self.size
+        self.columns.size(self.place)
     }
 
     /// Where it stands.
     pub fn place(&self) -> Place
         ensures { result ≡ self.now.place }
     {
-        self.place
+        self.columns.place(self.place)
     }
 
     /// It stands for no symbol (ELF gABI, "Symbol Table", index 0): undefined, local, of the empty name and no version, and
@@ -107,81 +105,81 @@ impl<'a> SymbolRow<'a> {
     pub fn is_null(&self) -> bool
         ensures { result ≡ is_null self.now }
     {
-        self.place.is_undefined()
-            && self.binding.is_local()
-            && self.name.is_empty()
-            && matches!(self.visibility, Visibility::Default)
-            && self.version.is_none()
+        self.is_undefined()
+            && self.is_local()
+            && self.name().is_empty()
+            && matches!(self.visibility(), Visibility::Default)
+            && self.version().is_none()
     }
 
     /// It refers to a symbol of its name, and defines none (`SHN_UNDEF`).
     pub fn is_undefined(&self) -> bool
         ensures { result ≡ is_undefined self.now.place }
     {
-        self.place.is_undefined()
+        self.place().is_undefined()
     }
 
     /// Its value is a number and not an address (`SHN_ABS`).
     pub fn is_absolute(&self) -> bool
         ensures { result ≡ is_absolute self.now.place }
     {
-        self.place.is_absolute()
+        self.place().is_absolute()
     }
 
     /// It is a tentative definition (`SHN_COMMON`).
     pub fn is_common(&self) -> bool
         ensures { result ≡ is_common self.now.place }
     {
-        self.place.is_common()
+        self.place().is_common()
     }
 
     /// The section of its object that it stands in.
     pub fn section(&self) -> Option<SectionIndex>
         ensures { result ≡ section_of self.now.place }
     {
-        self.place.section()
+        self.place().section()
     }
 
     /// It is a function (`STT_FUNC`); a resolver is none.
     pub fn is_func(&self) -> bool
         ensures { result ≡ is_func self.now.kind }
     {
-        self.kind.is_func()
+        self.kind().is_func()
     }
 
     /// It is a resolver, which answers the function's address at run time (`STT_GNU_IFUNC`).
     pub fn is_ifunc(&self) -> bool
         ensures { result ≡ is_ifunc self.now.kind }
     {
-        self.kind.is_ifunc()
+        self.kind().is_ifunc()
     }
 
     /// Each thread has its own (`STT_TLS`).
     pub fn is_tls(&self) -> bool
         ensures { result ≡ is_tls self.now.kind }
     {
-        self.kind.is_tls()
+        self.kind().is_tls()
     }
 
     /// Other files do not see it (`STB_LOCAL`).
     pub fn is_local(&self) -> bool
         ensures { result ≡ is_local self.now.binding }
     {
-        self.binding.is_local()
+        self.binding().is_local()
     }
 
     /// It is a weak definition or a weak reference (`STB_WEAK`).
     pub fn is_weak(&self) -> bool
         ensures { result ≡ is_weak self.now.binding }
     {
-        self.binding.is_weak()
+        self.binding().is_weak()
     }
 
     /// Other modules do not see it (`STV_HIDDEN`).
     pub fn is_hidden(&self) -> bool
         ensures { result ≡ is_hidden self.now.visibility }
     {
-        matches!(self.visibility, Visibility::Hidden)
+        matches!(self.visibility(), Visibility::Hidden)
     }
 
     /// How strongly it binds as a definition: weak before tentative, before unique in the process, before strong.
@@ -191,29 +189,11 @@ impl<'a> SymbolRow<'a> {
         if self.is_weak() {
             SymbolStrength::Weak
         } else if self.is_common() {
-            SymbolStrength::Common(self.size)
-        } else if self.binding.is_unique() {
+            SymbolStrength::Common(self.size())
+        } else if self.binding().is_unique() {
             SymbolStrength::GnuUnique
         } else {
             SymbolStrength::Strong
-        }
-    }
-}
-
-impl SymbolEntry {
-    /// The entry as a row that it lends itself.
-    pub fn row(&self) -> SymbolRow<'_>
-        ensures { result ≡ self.now }
-    {
-        SymbolRow {
-            name: self.name.as_slice(),
-            version: self.version.as_ref().map(|name| name.as_slice()),
-            is_default: self.is_default,
-            binding: self.binding,
-            visibility: self.visibility,
-            kind: self.kind,
-            size: self.size,
-            place: self.place,
         }
     }
 }

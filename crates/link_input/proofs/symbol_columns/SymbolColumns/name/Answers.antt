@@ -1,6 +1,8 @@
-use Rattle.std.proofs.Common.{◌≡◌, ◌∙◌, List, Some, ℕ, ap, sym}
+use Rattle.std.proofs.Common.{◌≡◌, ◌∙◌, List, Some, ap, option_map, sym, ℕ}
+use Rattle.std.proofs.lemmas.Option.{same_Some}
+use Rattle.link_input.specs.declared.symbol_entry.SymbolEntry.{SymbolEntry}
 use Rattle.link_input.specs.NameBlock.{bytes_at, IsInside}
-use Rattle.link_input.proofs.SideBySide.{has_place, holds_at, name_of}
+use Rattle.link_input.proofs.SideBySide.{has_place, holds_at, row_at}
 use Rattle.link_input.proofs.symbol_columns.SymbolColumns.name.Goals as goal
 
 pub field_at-requires : goal.field_at-requires
@@ -13,5 +15,7 @@ bytes_at-requires c =
 
 pub returns : goal.returns
 returns c =
-    name_of c.self.inside c.args.self.now c.args.index c.field_at.result c.self.view_is c.self.invariant c.requires c.field_at.ensures
-    ∙ ap Some (sym (c.bytes_at.ensures ∙ ap (λ (b : List ℕ). bytes_at b c.field_at.result) c.as_slice.ensures.value))
+    let row = row_at c.self.inside c.args.self.now c.args.index c.self.view_is c.self.invariant c.requires in
+    let span : row.span ≡ c.field_at.result = same_Some row.span c.field_at.result (sym row.at ∙ c.field_at.ensures) in
+    ap (option_map (λ (e : SymbolEntry). e.name)) row.here
+    ∙ ap Some (row.name ∙ (ap (bytes_at c.self.inside.block.items) span ∙ sym (c.bytes_at.ensures ∙ ap (λ (b : List ℕ). bytes_at b c.field_at.result) c.as_slice.ensures.value)))
