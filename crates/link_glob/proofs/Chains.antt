@@ -1,5 +1,5 @@
 -- Going back from one glob with a key to the one before it.
-use Rattle.std.proofs.Common.{◌≡◌, ◌<◌, ◌≤◌, ◌==◌, ◌&&◌, le_of_lt, ℕ, zero, suc, Bool, true, false, cond, if◌then◌else◌, nat_eq, List, [], ◌∷◌, ◌++◌, length, Option, Some, None, slice_get, ◌⊎◌, inl, inr, ⊎_elim, eq-or-lt_of_le, le_of_suc-le-suc, refl, sym, ap, ◌∙◌, arith}
+use Rattle.std.proofs.Common.{◌≡◌, max, subst, ◌<◌, ◌≤◌, ◌==◌, ◌&&◌, le_of_lt, ℕ, zero, suc, Bool, true, false, cond, if◌then◌else◌, nat_eq, List, [], ◌∷◌, ◌++◌, length, Option, Some, None, slice_get, ◌⊎◌, inl, inr, ⊎_elim, eq-or-lt_of_le, le_of_suc-le-suc, refl, sym, ap, ◌∙◌, arith}
 use Rattle.std.specs.HashMap.{get}
 use Rattle.std.proofs.lemmas.Bool.{eqb-true}
 use Rattle.std.proofs.lemmas.List.{length-append}
@@ -7,7 +7,7 @@ use Rattle.std.proofs.lemmas.Option.{slice_get_within}
 use Rattle.link_glob.specs.declared.glob_index.GlobIndex.{GlobIndex}
 use Rattle.link_glob.specs.Glob.{GlobToken}
 use Rattle.link_glob.specs.GlobList.{last_of, fits_at}
-use Rattle.link_glob.specs.GlobKey.{IsIndexOf, key_of, has_key, is_under, last_under}
+use Rattle.link_glob.specs.GlobKey.{IsFiledWithin, IsIndexOf, back_length, front_length, key_of, has_key, is_under, last_under}
 use Rattle.link_glob.proofs.LastOf.{same, below, passes, chained, none}
 
 -- one more than a number, where there is one
@@ -34,6 +34,7 @@ pushed globs glob index is = record {
   earlier = λ key n l u.
       is.earlier key n l (alike key n (omega (arith, l, is.few)) ∙ u)
       ∙ ap (λ (o : Option ℕ). Some o) (same (is_under globs key) (is_under (globs ++ glob ∷ []) key) n (λ k m. alike key k (omega (arith, l, m, is.few))));
+  within = λ n l. subst (IsFiledWithin index.longest_front index.longest_back) (sym (in_front globs (glob ∷ []) n (omega (arith, l, is.few)))) (is.within n l);
 }
   where
     alike : (key k : ℕ) → k < length globs → is_under globs key k ≡ is_under (globs ++ glob ∷ []) key k
@@ -51,11 +52,13 @@ last_or p n b found is e = rw is e
 pub added : (globs : List (List GlobToken)) (old new : GlobIndex) (glob : List GlobToken) (before : Option ℕ)
     → IsIndexOf globs old → slice_get globs (length old.earlier.items) ≡ Some glob
     → ((key : ℕ) → get nat_eq new.last key ≡ cond (nat_eq (key_of glob) key) (Some (length old.earlier.items)) (get nat_eq old.last key))
-    → new.earlier.items ≡ old.earlier.items ++ before ∷ [] → before ≡ get nat_eq old.last (key_of glob) → IsIndexOf globs new
-added globs old new glob before is there last items was = record {
+    → new.earlier.items ≡ old.earlier.items ++ before ∷ [] → before ≡ get nat_eq old.last (key_of glob)
+    → new.longest_front ≡ max old.longest_front (front_length glob) → new.longest_back ≡ max old.longest_back (back_length glob) → IsIndexOf globs new
+added globs old new glob before is there last items was front back = record {
   few = omega (arith, slice_get_within globs filed glob there, longer);
   last = λ key. rw longer (last_or (is_under globs key) filed (key_of glob == key) (get nat_eq new.last key) (ap (has_key key) there) (last key ∙ ap (λ (o : Option ℕ). cond (key_of glob == key) (Some filed) o) (is.last key)));
   earlier = λ key n l u. rw items (at_place key n (split n (omega (arith, l, longer))) u);
+  within = λ n l. filed_at n (split n (omega (arith, l, longer)));
 }
   where
     filed : ℕ
@@ -71,6 +74,14 @@ added globs old new glob before is there last items was = record {
         → slice_get (old.earlier.items ++ before ∷ []) n ≡ Some (last_of (is_under globs key) n)
     at_place key n (inl l) u = in_front old.earlier.items (before ∷ []) n l ∙ is.earlier key n l u
     at_place key n (inr e) u = rw e (at_end old.earlier.items before ∙ ap (λ (o : Option ℕ). Some o) (was ∙ is.last (key_of glob) ∙ ap (λ k. last_of (is_under globs k) (length old.earlier.items)) (key_at (slice_get globs n) glob key (rw e there) u)))
+
+    wider : (o : Option (List GlobToken)) → IsFiledWithin old.longest_front old.longest_back o → IsFiledWithin new.longest_front new.longest_back o
+    wider None w = tt
+    wider (Some g) w = (omega (arith, w.0, front), omega (arith, w.1, back))
+
+    filed_at : (n : ℕ) → (n < length old.earlier.items) ⊎ (n ≡ length old.earlier.items) → IsFiledWithin new.longest_front new.longest_back (slice_get globs n)
+    filed_at n (inl l) = wider (slice_get globs n) (is.within n l)
+    filed_at n (inr e) = rw (e, there) (omega (arith, front), omega (arith, back))
 
 -- on the way back through the globs with a key, the place is that of the last one before some number, and what is found
 -- before that number is what is found in all

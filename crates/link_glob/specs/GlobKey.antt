@@ -1,5 +1,5 @@
 -- Keys of globs, by the characters that a glob begins or ends with, and the index that finds globs by them.
-use Rattle.std.specs.Prelude.{◌≡◌, ◌≤◌, ◌<◌, ℕ, suc, length, Bool, true, false, ◌==◌, ◌||◌, ◌&&◌, ◌*◌, ◌%◌, ◌^◌, bit_xor, if◌then◌else◌, nat_lt, nat_eq, List, [], ◌∷◌, reverse, Option, Some, None, slice_get}
+use Rattle.std.specs.Prelude.{◌≡◌, ◌≤◌, ◌<◌, ℕ, suc, length, Bool, true, false, ◌==◌, ◌||◌, ◌&&◌, ◌*◌, ◌%◌, ◌^◌, ⊤, bit_xor, if◌then◌else◌, nat_lt, nat_eq, List, [], ◌∷◌, reverse, Option, Some, None, slice_get}
 use Rattle.std.specs.HashMap.{get}
 use Rattle.link_glob.specs.declared.glob_index.GlobIndex.{GlobIndex}
 use Rattle.link_glob.specs.Glob.{GlobToken, literal}
@@ -30,6 +30,18 @@ run_length tokens = 0
 unfoldable pub key_of : List GlobToken → ℕ
 key_of glob = if nat_lt (run_length glob) (run_length (reverse glob)) then run_key back_key (reverse glob) else run_key front_key glob
 
+-- of how many characters the key is: in front, and at the end
+unfoldable pub front_length : List GlobToken → ℕ
+front_length glob = if nat_lt (run_length glob) (run_length (reverse glob)) then 0 else run_length glob
+
+unfoldable pub back_length : List GlobToken → ℕ
+back_length glob = if nat_lt (run_length glob) (run_length (reverse glob)) then run_length (reverse glob) else 0
+
+-- there is no glob, or its key is of no more characters than these
+abbrev pub IsFiledWithin : ℕ → ℕ → Option (List GlobToken) → Type 0
+IsFiledWithin front back None = ⊤
+IsFiledWithin front back (Some glob) = (front_length glob ≤ front) × (back_length glob ≤ back)
+
 -- whether there is a glob, and it has this key
 abbrev pub has_key : ℕ → Option (List GlobToken) → Bool
 has_key key None = false
@@ -56,8 +68,10 @@ last_under globs key name n = last_of (λ k. is_under globs key k && fits_at glo
 abbrev pub last_under_some : List (List GlobToken) → ℕ → List ℕ → List ℕ → ℕ → Option ℕ
 last_under_some globs key text name n = last_of (λ k. is_under_some globs key text k && fits_at globs name k) n
 
--- the first globs are found by the index: of each key the last one, and from each one the one before it
+-- the first globs are found by the index: of each key the last one, and from each one the one before it; no key is of
+-- more characters than the longest
 pub record IsIndexOf (globs : List (List GlobToken)) (index : GlobIndex) : Type 0 where
   pub few : length index.earlier.items ≤ length globs
   pub last : (key : ℕ) → get nat_eq index.last key ≡ last_of (is_under globs key) (length index.earlier.items)
   pub earlier : (key n : ℕ) → n < length index.earlier.items → is_under globs key n ≡ true → slice_get index.earlier.items n ≡ Some (last_of (is_under globs key) n)
+  pub within : (n : ℕ) → n < length index.earlier.items → IsFiledWithin index.longest_front index.longest_back (slice_get globs n)

@@ -1,6 +1,6 @@
 //! An index over a list of globs, by the characters that a glob begins or ends with.
 
-ghost use Rattle.std.specs.Prelude.{◌≡◌, ◌∷◌, ◌++◌, [], ◌≤◌, ◌+◌, length, reverse, slice_get, OnOk, Some};
+ghost use Rattle.std.specs.Prelude.{◌≡◌, ◌∷◌, ◌++◌, [], ◌≤◌, ◌+◌, length, reverse, slice_get, take, OnOk, Some};
 ghost use Rattle.std.specs.Option.{MatchOption};
 ghost use Rattle.std.specs.Str.{chars};
 ghost use Rattle.link_glob.specs.GlobList.{last_of, fits_at, later};
@@ -13,14 +13,17 @@ use std::alloc::{AllocError, Global};
 use std::collections::HashMap;
 
 /// The first globs of a list by their keys. A look-up asks for the key of each front of a name, and of each of its
-/// ends, and looks at the globs with one key from the last one back. Keys may coincide: a glob that is found is
-/// compared with the name.
+/// ends, as long as some glob is filed by so many characters, and looks at the globs with one key from the last one
+/// back. Keys may coincide: a glob that is found is compared with the name.
 #[derive(Drop)]
 pub(crate) struct GlobIndex {
     /// The number of the last glob of each key.
     last: HashMap<u64, usize>,
     /// Of each glob the number of the one before it that has its key.
     earlier: Vec<Option<usize>>,
+    /// By how many characters in front, and at the end, a glob is filed at most.
+    longest_front: usize,
+    longest_back: usize,
 }
 
 /// The later of two numbers, where there are both.
@@ -42,6 +45,8 @@ impl GlobIndex {
         GlobIndex {
             last: HashMap::new(alloc),
             earlier: Vec::new(alloc),
+            longest_front: 0,
+            longest_back: 0,
         }
     }
 
@@ -67,39 +72,49 @@ impl GlobIndex {
         None
     }
 
-    /// The last glob under the key of some front of the name that fits the name.
+    /// The last glob under the key of some front of the name that fits the name, as far as fronts are filed.
     fn last_by_front(&self, globs: &[Pattern], name: &str) -> Option<usize>
         requires { IsIndexOf globs.now self.now }
-        ensures { result ≡ last_under_some globs.now front_key (chars name.now) (chars name.now) (length self.now.earlier.items) }
+        ensures { result ≡ last_under_some globs.now front_key (take self.now.longest_front (chars name.now)) (chars name.now) (length self.now.earlier.items) }
     {
         let mut key = FRONT_KEY;
         let mut found = None;
         let mut rest = name;
+        let mut left = self.longest_front;
         'fronts: loop {
             found = later(found, self.last_under(globs, key, name));
+            if left == 0 {
+                return found;
+            }
             let Some((c, after)) = split_first_char(rest) else {
                 return found;
             };
             key = key_with(key, c);
             rest = after;
+            left -= 1;
         }
     }
 
-    /// The last glob under the key of some end of the name that fits the name.
+    /// The last glob under the key of some end of the name that fits the name, as far as ends are filed.
     fn last_by_back(&self, globs: &[Pattern], name: &str) -> Option<usize>
         requires { IsIndexOf globs.now self.now }
-        ensures { result ≡ last_under_some globs.now back_key (reverse (chars name.now)) (chars name.now) (length self.now.earlier.items) }
+        ensures { result ≡ last_under_some globs.now back_key (take self.now.longest_back (reverse (chars name.now))) (chars name.now) (length self.now.earlier.items) }
     {
         let mut key = BACK_KEY;
         let mut found = None;
         let mut rest = name;
+        let mut left = self.longest_back;
         'backs: loop {
             found = later(found, self.last_under(globs, key, name));
+            if left == 0 {
+                return found;
+            }
             let Some((c, before)) = split_last_char(rest) else {
                 return found;
             };
             key = key_with(key, c);
             rest = before;
+            left -= 1;
         }
     }
 
@@ -126,8 +141,11 @@ impl GlobIndex {
     {
         self.earlier.reserve(1)?;
         let place = self.earlier.len();
-        let before = self.last.insert(glob.key(), place)?;
+        let filed = glob.key();
+        let before = self.last.insert(filed.key, place)?;
         self.earlier.push(before).unwrap();
+        self.longest_front = self.longest_front.max(filed.front);
+        self.longest_back = self.longest_back.max(filed.back);
         Ok(())
     }
 

@@ -4,7 +4,7 @@ ghost use Rattle.std.specs.Prelude.{◌≡◌, ◌∷◌, [], reverse};
 ghost use Rattle.std.specs.Option.{MatchOption};
 ghost use Rattle.std.specs.Str.{chars};
 ghost use Rattle.link_glob.specs.Glob.{views, literal};
-ghost use Rattle.link_glob.specs.GlobKey.{front_key, back_key, key_with, run_key, run_length, key_of};
+ghost use Rattle.link_glob.specs.GlobKey.{front_key, back_key, key_with, run_key, run_length, key_of, front_length, back_length};
 ghost use Rattle.link_glob.specs.Step.{BeginsOther};
 
 use crate::pattern::Token;
@@ -76,16 +76,37 @@ fn back_run(tokens: &[Token]) -> Run
     }
 }
 
-/// The key of the characters that a glob begins with or, where there are more, of those that it ends with.
-#[tactic(auto, unfolding(crate::specs::GlobKey::key_of))]
-pub(crate) fn key_of(tokens: &[Token]) -> u64
-    ensures { result ≡ key_of (views tokens.now) }
+/// By which of its characters a glob is filed: those that it begins with or, where there are more, those that it ends with.
+#[derive(Clone, Copy)]
+pub(crate) struct GlobKey {
+    /// Their key.
+    pub(crate) key: u64,
+    /// How many they are, where the glob begins with them, and else 0.
+    pub(crate) front: usize,
+    /// How many they are, where the glob ends with them, and else 0.
+    pub(crate) back: usize,
+}
+
+/// The key of a glob.
+#[tactic(auto, unfolding(crate::specs::GlobKey::key_of, crate::specs::GlobKey::front_length, crate::specs::GlobKey::back_length))]
+pub(crate) fn key_of(tokens: &[Token]) -> GlobKey
+    ensures key { result.key ≡ key_of (views tokens.now) }
+    ensures front { result.front ≡ front_length (views tokens.now) }
+    ensures back { result.back ≡ back_length (views tokens.now) }
 {
     let front = front_run(tokens);
     let back = back_run(tokens);
     if front.len < back.len {
-        back.key
+        GlobKey {
+            key: back.key,
+            front: 0,
+            back: back.len,
+        }
     } else {
-        front.key
+        GlobKey {
+            key: front.key,
+            front: front.len,
+            back: 0,
+        }
     }
 }

@@ -4,7 +4,7 @@ ghost use Rattle.std.specs.Prelude.{◌≡◌, ◌↔◌, List, IsTrue};
 ghost use Rattle.link_glob.specs.Glob.{view_token};
 ghost use Rattle.std.specs.Str.{chars};
 
-use crate::glob_key::key_of;
+use crate::glob_key::{GlobKey, key_of};
 use crate::matching::tokens_match;
 use std::alloc::AllocError;
 
@@ -78,7 +78,7 @@ impl Clone for Pattern {
 
 impl Pattern {
     ghost use Rattle.link_glob.specs.Glob.{GlobMatches, does_match, views};
-    ghost use Rattle.link_glob.specs.GlobKey.{key_of};
+    ghost use Rattle.link_glob.specs.GlobKey.{back_length, front_length, key_of};
 
     /// The pattern of these tokens.
     pub(crate) fn from_tokens(tokens: Vec<Token>) -> Pattern
@@ -88,8 +88,10 @@ impl Pattern {
     }
 
     /// Its key in an index.
-    pub(crate) fn key(&self) -> u64
-        ensures { result ≡ key_of self.now }
+    pub(crate) fn key(&self) -> GlobKey
+        ensures key { result.key ≡ key_of self.now }
+        ensures front { result.front ≡ front_length self.now }
+        ensures back { result.back ≡ back_length self.now }
     {
         key_of(&self.tokens)
     }

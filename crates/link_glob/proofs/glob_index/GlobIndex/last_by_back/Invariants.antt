@@ -1,4 +1,4 @@
-use Rattle.std.proofs.Common.{◌≡◌, length, reverse}
+use Rattle.std.proofs.Common.{◌≡◌, length, take, reverse}
 use denote.Text.{Utf8}
 use denote.Shadow.{shadow}
 use Rattle.std.specs.Str.{chars}
@@ -8,7 +8,7 @@ use Rattle.link_glob.proofs.glob_index.GlobIndex.last_by_back.Given as goal
 
 abbrev pub invariant-backs : goal.invariant-backs
 invariant-backs l = shadow (Utf8 l.rest)
-    × (later l.found (last_under_some l.globs l.key (reverse (chars l.rest)) (chars l.name) (length l.self.earlier.items)) ≡ last_under_some l.globs back_key (reverse (chars l.name)) (chars l.name) (length l.self.earlier.items))
+    × (later l.found (last_under_some l.globs l.key (take l.left (reverse (chars l.rest))) (chars l.name) (length l.self.earlier.items)) ≡ last_under_some l.globs back_key (take l.self.longest_back (reverse (chars l.name))) (chars l.name) (length l.self.earlier.items))
 
 abbrev pub decreases-backs : goal.decreases-backs
 decreases-backs l = length (reverse (chars l.rest))

@@ -1,4 +1,4 @@
-use Rattle.std.proofs.Common.{◌≡◌, length}
+use Rattle.std.proofs.Common.{◌≡◌, length, take}
 use denote.Text.{Utf8}
 use denote.Shadow.{shadow}
 use Rattle.std.specs.Str.{chars}
@@ -8,7 +8,7 @@ use Rattle.link_glob.proofs.glob_index.GlobIndex.last_by_front.Given as goal
 
 abbrev pub invariant-fronts : goal.invariant-fronts
 invariant-fronts l = shadow (Utf8 l.rest)
-    × (later l.found (last_under_some l.globs l.key (chars l.rest) (chars l.name) (length l.self.earlier.items)) ≡ last_under_some l.globs front_key (chars l.name) (chars l.name) (length l.self.earlier.items))
+    × (later l.found (last_under_some l.globs l.key (take l.left (chars l.rest)) (chars l.name) (length l.self.earlier.items)) ≡ last_under_some l.globs front_key (take l.self.longest_front (chars l.name)) (chars l.name) (length l.self.earlier.items))
 
 abbrev pub decreases-fronts : goal.decreases-fronts
 decreases-fronts l = length (chars l.rest)

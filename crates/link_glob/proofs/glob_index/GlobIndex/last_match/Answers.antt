@@ -5,4 +5,4 @@ use Rattle.link_glob.proofs.Keys.{found}
 use Rattle.link_glob.proofs.glob_index.GlobIndex.last_match.Goals as goal
 
 pub returns : goal.returns
-returns c = c.later.ensures ∙ ap₂ later c.last_by_front.ensures c.last_by_back.ensures ∙ found c.args.globs.now (chars c.args.name.now) (length c.args.self.now.earlier.items)
+returns c = c.later.ensures ∙ ap₂ later c.last_by_front.ensures c.last_by_back.ensures ∙ found c.args.self.now.longest_front c.args.self.now.longest_back c.args.globs.now (chars c.args.name.now) (length c.args.self.now.earlier.items) c.requires.within
