@@ -10,6 +10,7 @@ pub mod Returning
 pub mod Scanning
 pub mod Releasing
 pub mod Made
+pub mod Marking
 pub mod Labels
 pub mod Running
 pub mod Joined

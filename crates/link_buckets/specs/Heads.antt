@@ -1,5 +1,5 @@
 -- The heads of a bucket.
-use Rattle.std.specs.Prelude.{◌≡◌, ◌-◌, ◌&&◌, ℕ, Bool, IsTrue, List, [], Option, Some, filter_map, find, is_some, length, map, option_map, slice_get, take, unwrap_or}
+use Rattle.std.specs.Prelude.{◌≡◌, ◌-◌, ◌<◌, ◌&&◌, ℕ, Bool, true, IfSome, IsTrue, List, [], ◌∷◌, Option, Some, None, filter_map, find, is_some, length, map, option_map, slice_get, take, unwrap_or}
 use Rattle.std.specs.Option.{option_or}
 use Rattle.link_buckets.specs.declared.label.Label.{Label}
 use Rattle.link_buckets.specs.declared.head.Head.{Head}
@@ -8,6 +8,20 @@ use Rattle.link_buckets.specs.Keys.{Key, leads_to, have_one_key, number_of}
 -- the ids of its definitions
 abbrev pub ids_of : Head → List ℕ
 ids_of h = unwrap_or h.definitions []
+
+-- the first of several ids
+abbrev pub first_of_several : List ℕ → Option ℕ
+first_of_several (id ∷ next ∷ rest) = Some id
+first_of_several ids = None
+
+-- the first of these ids has a mark, where they are several and it has a place
+abbrev pub IsMarked : List Bool → List ℕ → Type 0
+IsMarked marks ids = IfSome (first_of_several ids) (λ id. id < length marks → slice_get marks id ≡ Some true)
+
+-- marks came to those that there were
+pub record HaveGrown (old new : List Bool) : Type 0 where
+  pub len : length new ≡ length old
+  pub kept : (id : ℕ) → slice_get old id ≡ Some true → slice_get new id ≡ Some true
 
 -- what it was overridden with, else its first definition
 abbrev pub mapped_of : Head → Option ℕ

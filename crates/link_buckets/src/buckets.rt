@@ -6,7 +6,7 @@ ghost use Rattle.link_buckets.specs.Heads.{first_alone};
 
 use crate::bucket::Bucket;
 use crate::definition::Definition;
-use crate::head::Definitions;
+use crate::head::{Definitions, mark_firsts};
 use crate::label::{Label, Names};
 use crate::mapped_labels::MappedLabels;
 use crate::runs::undo_parts;
@@ -27,7 +27,7 @@ impl Buckets {
     ghost use Rattle.std.specs.Option.{option_map_or, option_or};
     ghost use Rattle.link_buckets.specs.declared.label.Label.{Label};
     ghost use Rattle.link_buckets.specs.Keys.{Key, hash_of, key_of, leads_to, number_of, same_key};
-    ghost use Rattle.link_buckets.specs.Heads.{without_last};
+    ghost use Rattle.link_buckets.specs.Heads.{HaveGrown, IsMarked, without_last};
     ghost use Rattle.link_buckets.specs.Runs.{joined};
     ghost use Rattle.link_buckets.specs.Buckets.{AreHashed, AreKeyed, buckets_in, definitions_at, first_label, ids_with, label_at, mapped_at, overridden_at};
 
@@ -251,6 +251,16 @@ impl Buckets {
         let count = self.buckets.len();
         let run = self.buckets.as_mut_slice();
         undo_parts(table, count, 0, run, parts);
+    }
+
+    /// Marks the first definition of each name that has several; marks that are set stay. A symbol that has no mark then heads no list of rivals.
+    pub fn mark_firsts(&self, marks: &mut [bool])
+        ensures grown { HaveGrown marks.old marks.new }
+        ensures marked { (names : Label → Option Key) (asked : Key) → IsMarked marks.new (definitions_at names self.now asked) }
+    {
+        for bucket in self.buckets.iter() {
+            mark_firsts(bucket.heads(), marks);
+        }
     }
 
     /// Gives up the definitions of each name behind its first, and their memory.

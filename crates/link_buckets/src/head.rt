@@ -1,7 +1,7 @@
 //! What a bucket keeps of a name.
 
-ghost use Rattle.std.specs.Prelude.{◌≡◌, ◌++◌, [], ◌∷◌, ◌-◌, ◌<◌, Some, IsTrue, OnOk, OnErr, length, map, take, drop, slice_get, option_map, if◌then◌else◌, ◌↔◌};
-ghost use Rattle.link_buckets.specs.Heads.{first_alone};
+ghost use Rattle.std.specs.Prelude.{◌≡◌, ◌++◌, [], ◌∷◌, ◌-◌, ◌<◌, Some, IsTrue, OnOk, OnErr, length, map, take, drop, slice_get, option_map, if◌then◌else◌, ◌↔◌, All};
+ghost use Rattle.link_buckets.specs.Heads.{HaveGrown, IsMarked, first_alone, ids_of};
 
 use crate::label::Label;
 use std::alloc::{AllocError, Global};
@@ -98,7 +98,7 @@ pub struct Head {
 }
 
 impl Head {
-    ghost use Rattle.link_buckets.specs.Heads.{first_alone, ids_of, is_used, mapped_of, without_last};
+    ghost use Rattle.link_buckets.specs.Heads.{HaveGrown, IsMarked, first_alone, ids_of, is_used, mapped_of, without_last};
 
     /// A label that leads to the name.
     pub fn label(&self) -> Label
@@ -137,6 +137,19 @@ impl Head {
         ensures { result ≡ is_used self.now }
     {
         self.mapped().is_some()
+    }
+
+    /// Marks its first definition, where others stand behind it.
+    fn mark_first(&self, marks: &mut [bool])
+        ensures grown { HaveGrown marks.old marks.new }
+        ensures marked { IsMarked marks.new (ids_of self.now) }
+    {
+        if let Some(definitions) = &self.definitions {
+            let first = definitions.first() as usize;
+            if !definitions.later().is_empty() && first < marks.len() {
+                marks[first] = true;
+            }
+        }
     }
 
     /// Adds a definition at the end.
@@ -180,5 +193,15 @@ pub(crate) fn release_all(heads: &mut [Head])
 {
     for head in heads.iter_mut() {
         head.release_later();
+    }
+}
+
+/// Marks the first of several definitions of each head.
+pub(crate) fn mark_firsts(heads: &[Head], marks: &mut [bool])
+    ensures grown { HaveGrown marks.old marks.new }
+    ensures marked { All (λ h. IsMarked marks.new (ids_of h)) heads.now }
+{
+    for head in heads.iter() {
+        head.mark_first(marks);
     }
 }

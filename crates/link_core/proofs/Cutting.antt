@@ -1,6 +1,7 @@
 -- Batches are what their sizes cut off their files.
-use Rattle.std.proofs.Common.{◌≡◌, ◌∙◌, ◌++◌, List, [], ◌∷◌, ap, drop, length, map, refl, subst, take}
+use Rattle.std.proofs.Common.{◌≡◌, ◌∙◌, ◌++◌, List, [], ◌∷◌, ap, length, map, refl, subst}
 use Rattle.std.specs.List.{flat_map}
+use Rattle.std.proofs.lemmas.List.{drop_at, take_at}
 use Rattle.link_files.proofs.Joining.{objects-of-batches, scripts-of-batches, stubs-of-batches}
 use Rattle.link_groups.specs.declared.group.Group.{Group}
 use Rattle.link_groups.specs.Held.{AreGroupsOf}
@@ -9,27 +10,17 @@ use Rattle.link_input.specs.InputFiles.{Batch}
 use Rattle.link_core.specs.declared.batch_size.BatchSize.{BatchSize}
 use Rattle.link_core.specs.Sizes.{batches_in, cut_by, size_of}
 
--- as many as the first list has are that list
-take-front : {A : Type 0} (xs ys : List A) → take (length xs) (xs ++ ys) ≡ xs
-take-front [] ys = refl
-take-front (x ∷ xs) ys = ap (λ l. x ∷ l) (take-front xs ys)
-
--- and those behind them are the second
-drop-front : {A : Type 0} (xs ys : List A) → drop (length xs) (xs ++ ys) ≡ ys
-drop-front [] ys = refl
-drop-front (x ∷ xs) ys = drop-front xs ys
-
 -- the sizes of batches cut these batches off their files
 cut-all : (bs : List Batch) → cut_by (map size_of bs) (flat_map (λ b. b.objects) bs) (flat_map (λ b. b.scripts) bs) (flat_map (λ b. b.stubs) bs) ≡ bs
 cut-all [] = refl
 cut-all (b ∷ bs) =
     rw (
-      take-front b.objects (flat_map (λ (x : Batch). x.objects) bs),
-      take-front b.scripts (flat_map (λ (x : Batch). x.scripts) bs),
-      take-front b.stubs (flat_map (λ (x : Batch). x.stubs) bs),
-      drop-front b.objects (flat_map (λ (x : Batch). x.objects) bs),
-      drop-front b.scripts (flat_map (λ (x : Batch). x.scripts) bs),
-      drop-front b.stubs (flat_map (λ (x : Batch). x.stubs) bs),
+      take_at b.objects (flat_map (λ (x : Batch). x.objects) bs) (length b.objects) refl,
+      take_at b.scripts (flat_map (λ (x : Batch). x.scripts) bs) (length b.scripts) refl,
+      take_at b.stubs (flat_map (λ (x : Batch). x.stubs) bs) (length b.stubs) refl,
+      drop_at b.objects (flat_map (λ (x : Batch). x.objects) bs) (length b.objects) refl,
+      drop_at b.scripts (flat_map (λ (x : Batch). x.scripts) bs) (length b.scripts) refl,
+      drop_at b.stubs (flat_map (λ (x : Batch). x.stubs) bs) (length b.stubs) refl,
     )
     (ap (λ (l : List Batch). b ∷ l) (cut-all bs))
 

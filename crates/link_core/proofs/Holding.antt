@@ -4,7 +4,6 @@ use Rattle.std.specs.List.{flat_map}
 use Rattle.std.proofs.lemmas.List.{length-map}
 use Rattle.link_flags.specs.declared.value_flags.RawFlags.{RawFlags}
 use Rattle.link_flags.specs.FlagWords.{numbers_of}
-use Rattle.link_files.specs.GroupFiles.{symbols_in}
 use Rattle.link_files.specs.Inputs.{objects_in}
 use Rattle.link_groups.specs.Held.{AreGroupsOf}
 use Rattle.link_input.specs.declared.options.Options.{Options}
@@ -68,14 +67,13 @@ module _ {P : Type 0} (platform : PlatformRules) (demangle : Bytes → Bytes) (o
 
   -- with one batch more, these are open
   pub open-next : (done : List Batch) (b : Batch) (db new : Database P) (words after : List RawFlags) (r next : Resolving) → IsOpenWith platform demangle options texts done db words r
-      → HasRoom new after → length next.known.strengths ≡ length (symbols_in new.mapping.files.groups)
-      → ForNext b db words r.known (λ w. (l : Selection) × IsHeldAt platform demangle w l new (numbers_of after) next) → IsOpenWith platform demangle options texts (done ++ b ∷ []) new after next
-  open-next [] b db new words after r next came room strengths gives =
+      → HasRoom new after → ForNext b db words r.known (λ w. (l : Selection) × IsHeldAt platform demangle w l new (numbers_of after) next) → IsOpenWith platform demangle options texts (done ++ b ∷ []) new after next
+  open-next [] b db new words after r next came room gives =
       let found = for-next [] b db words r (λ w. (l : Selection) × IsHeldAt platform demangle w l new (numbers_of after) next) came gives in
-      record { selection = found.0; held = found.1; room = room; strengths = strengths }
-  open-next (f ∷ fs) b db new words after r next came room strengths gives =
+      record { selection = found.0; held = found.1; room = room }
+  open-next (f ∷ fs) b db new words after r next came room gives =
       let found = for-next (f ∷ fs) b db words r (λ w. (l : Selection) × IsHeldAt platform demangle w l new (numbers_of after) next) came gives in
-      record { selection = found.0; held = found.1; room = room; strengths = strengths }
+      record { selection = found.0; held = found.1; room = room }
 
   -- a cause that one batch more brings ends the link of all batches, whatever comes behind it
   pub fails-open : (done : List Batch) (b : Batch) (more : List Batch) (db : Database P) (words : List RawFlags) (r : Resolving) (e : LinkError)
@@ -106,7 +104,6 @@ module _ {P : Type 0} (platform : PlatformRules) (demangle : Bytes → Bytes) (o
     pub loaded : IsLoadedWith platform demangle world selection db (numbers_of words) r
     pub objects : selection.stage.objects ≡ flat_map (λ (b : Batch). b.objects) done
     pub room : HasRoom db words
-    pub strengths : length r.known.strengths ≡ length (symbols_in db.mapping.files.groups)
 
   pub ends-open : (done : List Batch) (all : List (Inputs P)) (db : Database P) (words : List RawFlags) (r : Resolving) → done ≡ map batch_of all → 1 ≤ length all
       → IsOpenWith platform demangle options texts done db words r → Ends done db words r
@@ -120,7 +117,6 @@ module _ {P : Type 0} (platform : PlatformRules) (demangle : Bytes → Bytes) (o
     loaded = came.held.loaded;
     objects = came.held.files.objects;
     room = came.room;
-    strengths = came.strengths;
   }
 
 -- fewer came than there are, where one is left

@@ -39,11 +39,12 @@ use Rattle.link_loader.specs.ReadTexts.{ReadTexts}
 use Rattle.link_mapping.specs.Mapped.{AreListed, Mapped}
 use Rattle.link_symbols.specs.Lookups.{AreBelow}
 use Rattle.link_db.specs.Database.{Database, HasTable, no_names, symbol_names}
-use Rattle.link_resolve.specs.Known.{IsSelection, Known}
-use Rattle.link_resolve.specs.Resolving.{IsNextStage, Resolving, loading_cause, nothing_known}
+use Rattle.link_resolve.specs.Known.{IsLoadedSelection, IsSelection, Known}
+use Rattle.link_resolve.specs.Resolving.{IsNextStage, Resolving, loading_cause, nothing_known, with_strengths}
 use Rattle.link_resolve.specs.Settled.{IsSettled}
+use Rattle.link_flags.specs.declared.strength.SymbolStrength.{SymbolStrength}
 use Rattle.link_core.specs.Given.{with_one_more}
-use Rattle.link_core.specs.Steps.{HasRoom, HasRules, IsAdded, IsBefore, IsEndedWith, IsHeldAt, IsLoadedWith, IsReady, IsRefusedWith, IsSettledWith, IsSteady, first_scripts, inputs_refusal}
+use Rattle.link_core.specs.Steps.{HasRoom, HasRules, IsAdded, IsBefore, IsEndedWith, IsHeldAt, IsLoadedWith, IsPointedWith, IsReady, IsRefusedWith, IsSettledWith, IsSteady, first_scripts, inputs_refusal}
 use Rattle.link_core.proofs.NextStage.{all-files}
 use Rattle.link_core.proofs.Batches.{ends-behind, first-none, links-loaded}
 
@@ -121,25 +122,23 @@ next-stage platform demangle w done b before first db numbers after known is rea
 }
 
 -- once the batch is loaded, all batches of the world are held
-pub held-next : {P : Type 0} (platform : PlatformRules) (demangle : Bytes → Bytes) (w : World) (done : List Batch) (b : Batch) (before : Stage) (db after : Database P)
+pub held-next : {P : Type 0} (platform : PlatformRules) (demangle : Bytes → Bytes) (w : World) (done : List Batch) (b : Batch) (before : Stage) (db : Database P)
     (read flags : List ℕ) (r : Resolving) (marks : List Bool) → IsBefore platform demangle w done b before → IsAdded platform demangle w (with_batch before b) db read
     → inputs_refusal (not (is_empty done)) before b ≡ None → IsLoaded (with_batch before b) marks → loading_cause (with_batch before b) marks ≡ None
-    → IsSelection platform demangle after r.known (selection_of (with_batch before b) marks) → AreGroupsOf marks (with_batch before b).objects r.groups
-    → after.table ≡ reference_table (selection_of (with_batch before b) marks) → flags ≡ marked_flags (selection_of (with_batch before b) marks)
-    → after ≡ record db { table = after.table }
-    → IsHeldAt platform demangle w (selection_of (with_batch before b) marks) after flags r
-held-next {P} platform demangle w done b before db after read flags r marks is added none loaded fine selection groups table marked rest =
+    → IsLoadedSelection platform demangle db r.known (selection_of (with_batch before b) marks) → AreGroupsOf marks (with_batch before b).objects r.groups
+    → flags ≡ marked_flags (selection_of (with_batch before b) marks)
+    → IsHeldAt platform demangle w (selection_of (with_batch before b) marks) db flags r
+held-next {P} platform demangle w done b before db read flags r marks is added none loaded fine selection groups marked =
     let s = with_batch before b in
     let l = selection_of s marks in
     record {
       loaded = record {
         selects = record { texts = is.texts; ends = is.ends (Ok l) (links-loaded (not (is_empty done)) before b marks none loaded fine) };
         selection = selection;
+        is = refl;
         groups = subst (λ (ms : List Bool). AreGroupsOf ms s.objects r.groups) selection.marks groups;
-        table = table;
         flags = marked;
       };
-      is = refl;
       least = loaded;
       orderly = orderly-grows before b is.orderly;
       rules = is.rules;
@@ -147,8 +146,8 @@ held-next {P} platform demangle w done b before db after read flags r marks is a
       files = all-files platform demangle w done b before is;
       texts_are = is.texts_are;
       taken = taken-more platform demangle w done b before is none;
-      groups = subst (λ (d : Database P). held.AreGroupsOf d.options (w.first ∷ w.later) d.mapping.files.groups) (sym rest) added.groups;
-      holds = subst (λ (d : Database P). HoldsTexts platform w.options w.texts w.first.scripts d.rules) (sym rest) added.holds;
+      groups = added.groups;
+      holds = added.holds;
     }
 
 -- another batch may come behind those that are held
@@ -159,7 +158,7 @@ before-next platform demangle w b l db numbers r is = record {
   rules = is.rules;
   texts = is.loaded.selects.texts;
   ends = λ end links. ends-behind false (start_of w) w.first w.later l b end is.loaded.selects.ends links;
-  orderly = subst (λ (k : Selection). IsOrderly (ended k)) (sym is.is) (orderly-stays l.stage l.marks is.orderly is.least);
+  orderly = subst (λ (k : Selection). IsOrderly (ended k)) (sym is.loaded.is) (orderly-stays l.stage l.marks is.orderly is.least);
   files = record { options_are = is.files.options_are; symbols = is.files.symbols; objects = is.files.objects; scripts = is.files.scripts; stubs = is.files.stubs };
   texts_are = is.texts_are;
   rules_are = is.rules_are;
@@ -233,9 +232,25 @@ below-more n m targets more below = λ k d lt. by (slice_index_or targets k d) (
 
 -- ---- behind the last batch
 
+-- each symbol points to what it stands for, with what was answered for what is loaded
+pub pointed-with : {P : Type 0} (platform : PlatformRules) (demangle : Bytes → Bytes) (w : World) (l : Selection) (old new : Database P) (numbers : List ℕ) (before after : Resolving) (strengths : List SymbolStrength)
+    → IsLoadedWith platform demangle w l old numbers before → after ≡ with_strengths strengths before
+    → ((s : Stage) (marks : List Bool) → IsLoadedSelection platform demangle old before.known (selection_of s marks) → AreGroupsOf marks s.objects before.groups → IsSelection platform demangle new after.known (selection_of s marks))
+    → (IsLoadedSelection platform demangle old before.known l → new.table ≡ reference_table l)
+    → IsPointedWith platform demangle w l new numbers after
+pointed-with platform demangle w l old new numbers before after strengths loaded same selection table = record {
+  selects = loaded.selects;
+  selection = subst (λ (k : Selection). IsSelection platform demangle new after.known k) (sym loaded.is)
+      (selection l.stage l.marks (subst (λ (k : Selection). IsLoadedSelection platform demangle old before.known k) loaded.is loaded.selection)
+      (subst (λ (ms : List Bool). AreGroupsOf ms l.stage.objects before.groups) (sym loaded.selection.marks) loaded.groups));
+  groups = subst (λ (r : Resolving). AreGroupsOf r.known.marks l.stage.objects r.groups) (sym same) loaded.groups;
+  table = table loaded.selection;
+  flags = loaded.flags;
+}
+
 -- rivals are settled, with what was answered for what is known
 pub settled-with : {P : Type 0} (platform : PlatformRules) (demangle : Bytes → Bytes) (w : World) (l : Selection) (old left : Database P) (before flags : List ℕ) (r : Resolving)
-    → IsLoadedWith platform demangle w l old before r → unless_none (duplicate_lines l) ≡ None → IsSettled left r.known l
+    → IsPointedWith platform demangle w l old before r → unless_none (duplicate_lines l) ≡ None → IsSettled left r.known l
     → left.rules ≡ old.rules → left.table ≡ versioned_table l → flags ≡ each_from (narrowed_symbol l.stage before) 0 l.stage.symbols
     → IsSettledWith platform demangle w l left flags r
 settled-with {P} platform demangle w l old left before flags r loaded none settled rules table narrowed = record {

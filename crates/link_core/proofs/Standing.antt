@@ -4,7 +4,6 @@ use Rattle.std.specs.Prelude.{IfErr, IfSome}
 use Rattle.std.specs.Result.{IsErrAnd}
 use Rattle.link_flags.specs.declared.value_flags.RawFlags.{RawFlags}
 use Rattle.link_flags.specs.FlagWords.{numbers_of}
-use Rattle.link_files.specs.GroupFiles.{symbols_in}
 use Rattle.link_groups.specs.Held.{AreGroupsOf}
 use Rattle.link_input.specs.declared.options.Options.{Options}
 use Rattle.link_input.specs.declared.world.Scripts.{Scripts}
@@ -74,13 +73,13 @@ module _ {P : Type 0} (platform : PlatformRules) (demangle : Bytes → Bytes) (t
     pub options : new.options ≡ db.options
 
   pub stands-next : (sizes more : List BatchSize) (b : Batch) (db new : Database P) (words after : List RawFlags) (r next : Resolving) → more ≡ sizes ++ size_of b ∷ []
-      → IsStanding platform demangle texts sizes db words r → HasRoom new after → length next.known.strengths ≡ length (symbols_in new.mapping.files.groups) → IsSteady new after next.known
+      → IsStanding platform demangle texts sizes db words r → HasRoom new after → IsSteady new after next.known
       → ((batches : List Batch) → AreGroupsOf db.options batches db.mapping.files.groups → AreGroupsOf new.options (batches ++ b ∷ []) new.mapping.files.groups)
       → ForNext platform demangle db.options texts b db words r.known (λ w. (l : Selection) × IsHeldAt platform demangle w l new (numbers_of after) next)
       → StandsNext sizes more b db new after next
-  stands-next sizes more b db new words after r next one stands room strengths steady grown gives =
+  stands-next sizes more b db new words after r next one stands room steady grown gives =
       let done = batches_in sizes db.mapping.files.groups in
-      let came = open-next platform demangle db.options texts done b db new words after r next stands.came room strengths gives in
+      let came = open-next platform demangle db.options texts done b db new words after r next stands.came room gives in
       let options = options-open db.options done b new after next came in
       let held = grown done (groups-open platform demangle db.options texts done db words r stands.came) in
       let cut = ap (λ (ns : List BatchSize). batches_in ns new.mapping.files.groups) one ∙ one-more-held new.options sizes b db.mapping.files.groups new.mapping.files.groups stands.sizes_are held in

@@ -32,7 +32,7 @@ use Rattle.link_mapping.specs.Mapped.{AreListed}
 use Rattle.link_symbols.specs.Lookups.{AreBelow}
 use Rattle.link_db.specs.Database.{Database, HasTable, symbol_names}
 use Rattle.link_stage.specs.AtStage.{IsAtStage}
-use Rattle.link_resolve.specs.Known.{IsListed, IsSelection, Known}
+use Rattle.link_resolve.specs.Known.{IsListed, IsLoadedSelection, IsSelection, Known}
 use Rattle.link_resolve.specs.Resolving.{Resolving, nothing_known}
 use Rattle.link_resolve.specs.Settled.{IsEnded, IsSettled}
 use Rattle.link_core.specs.Given.{given_in_batches}
@@ -121,15 +121,14 @@ pub record Selects (w : World) (l : Selection) : Type 0 where
 -- the objects that count are loaded
 pub record IsLoadedWith {P : Type 0} (platform : PlatformRules) (demangle : Bytes → Bytes) (w : World) (l : Selection) (db : Database P) (numbers : List ℕ) (r : Resolving) : Type 0 where
   pub selects : Selects w l
-  pub selection : IsSelection platform demangle db r.known l
+  pub selection : IsLoadedSelection platform demangle db r.known l
+  pub is : l ≡ selection_of l.stage l.marks
   pub groups : AreGroupsOf r.known.marks l.stage.objects r.groups
-  pub table : db.table ≡ reference_table l
   pub flags : numbers ≡ marked_flags l
 
 -- so they are, and another batch may come behind those of the world
 pub record IsHeldAt {P : Type 0} (platform : PlatformRules) (demangle : Bytes → Bytes) (w : World) (l : Selection) (db : Database P) (numbers : List ℕ) (r : Resolving) : Type 0 where
   pub loaded : IsLoadedWith platform demangle w l db numbers r
-  pub is : l ≡ selection_of l.stage l.marks
   pub least : IsLoaded l.stage l.marks
   pub orderly : IsOrderly l.stage
   pub rules : HasRules platform demangle w
@@ -152,7 +151,6 @@ pub record IsHeld {P : Type 0} (platform : PlatformRules) (demangle : Bytes → 
   pub selection : Selection
   pub held : IsHeldAt platform demangle w selection db (numbers_of words) r
   pub room : HasRoom db words
-  pub strengths : length r.known.strengths ≡ length (symbols_in db.mapping.files.groups)
 
 -- these batches came to a link with these options and texts
 abbrev pub IsOpenWith : {P : Type 0} → PlatformRules → (Bytes → Bytes) → Options → Scripts → List Batch → Database P → List RawFlags → Resolving → Type 0
@@ -162,6 +160,14 @@ IsOpenWith platform demangle options texts (b ∷ bs) db words r = IsHeld platfo
 -- the references that stand for undefined names, where this is selected
 abbrev pub undefined_ids : Selection → List ℕ
 undefined_ids l = map (λ u. u.0) (filter (λ u. is_last_alike (left_undefined l) u && not (is_boundary_maker l.stage (left_undefined l) u)) (left_undefined l))
+
+-- behind the last batch each symbol points to what it stands for, and it is known how strongly each binds
+pub record IsPointedWith {P : Type 0} (platform : PlatformRules) (demangle : Bytes → Bytes) (w : World) (l : Selection) (db : Database P) (numbers : List ℕ) (r : Resolving) : Type 0 where
+  pub selects : Selects w l
+  pub selection : IsSelection platform demangle db r.known l
+  pub groups : AreGroupsOf r.known.marks l.stage.objects r.groups
+  pub table : db.table ≡ reference_table l
+  pub flags : numbers ≡ marked_flags l
 
 -- rivals are settled
 pub record IsSettledWith {P : Type 0} (platform : PlatformRules) (demangle : Bytes → Bytes) (w : World) (l : Selection) (db : Database P) (numbers : List ℕ) (r : Resolving) : Type 0 where

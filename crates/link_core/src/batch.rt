@@ -1,7 +1,6 @@
 //! A batch of a link: its files are added, and the objects that count are loaded.
 
 ghost use Rattle.std.specs.Prelude.{◌≡◌, ◌⊎◌, ◌<◌, ◌≤◌, ◌++◌, ◌∷◌, [], List, Err, IfErr, OnOk, length};
-ghost use Rattle.link_files.specs.GroupFiles.{symbols_in};
 ghost use Rattle.link_files.specs.Inputs.{objects_in};
 ghost use Rattle.link_flags.specs.FlagWords.{numbers_of, words_of};
 ghost use Rattle.link_groups.specs.Held.{AreGroupsOf};
@@ -48,7 +47,6 @@ pub(crate) fn link_batch<
     requires loaded { length resolver.old.known.marks ≤ length (objects_in (seen db.old).mapping.files.groups) }
     ensures steady { OnOk result (IsSteady (seen db.new) (words_of flags.new) resolver.new.known) }
     ensures room { OnOk result (HasRoom (seen db.new) (words_of flags.new)) }
-    ensures strengths { OnOk result (length resolver.new.known.strengths ≡ length (symbols_in (seen db.new).mapping.files.groups)) }
     ensures groups { OnOk result ((batches : List Batch) → AreGroupsOf (seen db.old).options batches (seen db.old).mapping.files.groups
         → AreGroupsOf (seen db.new).options (batches ++ batch_of inputs ∷ []) (seen db.new).mapping.files.groups) }
     ensures refused { IfErr result (λ error. (w : World) (done : List Batch) (before : Stage)
@@ -61,6 +59,6 @@ pub(crate) fn link_batch<
         → (l : Selection) × IsHeldAt (platform_of P.Platform) (D.demangled demangler.now) w l (seen db.new) (numbers_of (words_of flags.new)) resolver.new) }
 {
     add_files(rt, alloc, demangler, db, flags, inputs)?;
-    resolver.resolve_symbols_and_select_archive_entries(rt, alloc, gate, workers, db, flags)?;
+    resolver.load_batch(rt, alloc, gate, workers, db, flags)?;
     Ok(())
 }

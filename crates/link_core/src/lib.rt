@@ -8,6 +8,7 @@ mod ending;
 mod held_link;
 mod link;
 mod opening;
+mod pointing;
 mod session;
 mod session_error;
 mod settling;

@@ -2,7 +2,6 @@
 
 ghost use Rattle.std.specs.Prelude.{◌≡◌, ◌⊎◌, ◌≤◌, ◌∷◌, List, IfErr, IfOk, length, map};
 ghost use Rattle.std.specs.List.{flat_map};
-ghost use Rattle.link_files.specs.GroupFiles.{symbols_in};
 ghost use Rattle.link_files.specs.Inputs.{objects_in};
 ghost use Rattle.link_flags.specs.FlagWords.{numbers_of, words_of};
 ghost use Rattle.link_input.specs.InputFiles.{Batch, batch_of};
@@ -21,6 +20,7 @@ ghost use Rattle.link_core.specs.Steps.{HasRoom, IsLoadedWith, IsRefusedWith, Is
 use crate::batch::link_batch;
 use crate::ending::end_link;
 use crate::opening::{OpenLink, open_link};
+use crate::pointing::point_symbols;
 use crate::settling::settle_rivals;
 use link_answer::Linked;
 use link_claim::Gate;
@@ -38,7 +38,6 @@ pub(crate) fn finish_link<P: Platform, D: Demangler>(
 ) -> Result<Linked<P>, LinkError>
     requires room { HasRoom (seen link.db) (words_of link.flags) }
     requires steady { IsSteady (seen link.db) (words_of link.flags) link.resolver.known }
-    requires strengths { length link.resolver.known.strengths ≡ length (symbols_in (seen link.db).mapping.files.groups) }
     ensures refused { IfErr result (λ error. (w : World) (l : Selection)
         → IsLoadedWith (platform_of P.Platform) (D.demangled demangler.now) w l (seen link.db) (numbers_of (words_of link.flags)) link.resolver → IsRefusedWith w error) }
     ensures objects { IfOk result (λ linked. (w : World) (l : Selection)
@@ -49,10 +48,11 @@ pub(crate) fn finish_link<P: Platform, D: Demangler>(
         → IsLinked w (answer_of (answer.seen linked))) }
 {
     let OpenLink {
-        db,
+        mut db,
         mut flags,
-        resolver,
+        mut resolver,
     } = link;
+    point_symbols(alloc, &mut db, &flags, &mut resolver)?;
     let sections = Vec::from_clones(alloc, db.options().custom_sections.as_slice())?;
     let db = settle_rivals(alloc, db, &mut flags, &resolver)?;
     end_link(alloc, db, flags, resolver, &sections, demangler)

@@ -191,14 +191,15 @@ impl<P: Platform + Sync, D: Demangler + Drop + Sync> Session<P, D> {
         }
     }
 
-    /// How many objects are loaded so far.
+    /// How many objects are loaded so far: none where no batch is held.
     pub fn num_loaded(&self) -> usize
-        ensures { IfSome self.now (λ held. IfSome (held_world (platform_of P.Platform) (D.demangled held.demangler) held)
+        ensures value { IfSome self.now (λ held. IfSome (held_world (platform_of P.Platform) (D.demangled held.demangler) held)
             (λ w. (l : Selection) × Selects w l × (result ≡ length (filter (λ mark. mark) l.marks)))) }
+        ensures none { batches_of self.now ≡ [] → result ≡ 0 }
     {
         match &self.held {
-            Some(held) => held.num_loaded(),
-            None => 0,
+            Some(held) if held.num_batches() > 0 => held.num_loaded(),
+            _ => 0,
         }
     }
 }

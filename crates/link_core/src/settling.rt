@@ -9,7 +9,7 @@ ghost use Rattle.link_rules.specs.Selection.{Selection};
 ghost use Rattle.link_rules.specs.World.{World};
 ghost use Rattle.link_db.specs.Seen.{seen};
 ghost use Rattle.link_resolve.specs.Known.{IsListed};
-ghost use Rattle.link_core.specs.Steps.{HasRoom, IsLoadedWith, IsRefusedWith, IsSettledWith};
+ghost use Rattle.link_core.specs.Steps.{HasRoom, IsPointedWith, IsRefusedWith, IsSettledWith};
 
 use link_db::SymbolDb;
 use link_flags::PerSymbolFlags;
@@ -31,9 +31,9 @@ pub(crate) fn settle_rivals<P: Platform>(
     ensures room { IfOk result (λ left. HasRoom (seen left) (words_of flags.new)) }
     ensures options { IfOk result (λ left. (seen left).options ≡ (seen db).options) }
     ensures added { IfOk result (λ left. (seen left).mapping.files.added ≡ []) }
-    ensures refused { IfErr result (λ error. (demangle : Bytes → Bytes) (w : World) (l : Selection) → IsLoadedWith (platform_of P.Platform) demangle w l (seen db) (numbers_of (words_of flags.old)) resolver.now
+    ensures refused { IfErr result (λ error. (demangle : Bytes → Bytes) (w : World) (l : Selection) → IsPointedWith (platform_of P.Platform) demangle w l (seen db) (numbers_of (words_of flags.old)) resolver.now
         → IsRefusedWith w error) }
-    ensures settled { IfOk result (λ left. (demangle : Bytes → Bytes) (w : World) (l : Selection) → IsLoadedWith (platform_of P.Platform) demangle w l (seen db) (numbers_of (words_of flags.old)) resolver.now
+    ensures settled { IfOk result (λ left. (demangle : Bytes → Bytes) (w : World) (l : Selection) → IsPointedWith (platform_of P.Platform) demangle w l (seen db) (numbers_of (words_of flags.old)) resolver.now
         → IsSettledWith (platform_of P.Platform) demangle w l (seen left) (numbers_of (words_of flags.new)) resolver.now) }
 {
     let left = resolve_alternative_symbol_definitions(alloc, db, flags, resolver.resolved())?;

@@ -8,7 +8,7 @@ ghost use Rattle.link_flags.specs.FlagWords.{words_of};
 ghost use Rattle.link_resolve.specs.Known.{IsListed};
 
 use crate::graphs::{chain, fan, reached, tree};
-use crate::loading::{count_of, opened, resolve};
+use crate::loading::{count_of, opened};
 use crate::shape::{Shape, inputs_of};
 use link_claim::OpenGate;
 use link_closure::Edge;
@@ -75,7 +75,7 @@ fn edges_of(alloc: Global, kind: &str, count: usize) -> Result<Vec<Edge>, Fault>
     }
 }
 
-/// Loads the objects of a database. How many are loaded, and how many requests references made.
+/// Loads the objects of a database, and then points its symbols to what they stand for. How many objects are loaded, and how many requests references made.
 fn time_loading<R: Threads + Sync + Clock + Eprint>(
     rt: &R,
     alloc: Global,
@@ -88,8 +88,10 @@ fn time_loading<R: Threads + Sync + Clock + Eprint>(
 {
     let mut resolver = Resolver::new(alloc);
     let start = Instant::now(rt)?;
-    let requests = resolve(rt, alloc, &OpenGate, workers, db, flags, &mut resolver)?;
-    lap(rt, start, "loaded")?;
+    let requests = resolver.load_batch(rt, alloc, &OpenGate, workers, db, flags)?;
+    let loaded = lap(rt, start, "loaded")?;
+    resolver.point_references(alloc, db)?;
+    lap(rt, loaded, "pointed")?;
     Ok((count_of(resolver.resolved().loaded()), requests))
 }
 
@@ -146,6 +148,7 @@ fn time_both<R: Threads + Sync + Clock + Print + Eprint>(
 }
 
 /// Times what words tell: the loading of a link's objects by threads, and the plain work list over the same edges.
+/// What it writes is left open: figures are no promise.
 pub(crate) fn bench<R: Threads + Sync + Clock + Print + Eprint>(
     rt: &R,
     alloc: Global,

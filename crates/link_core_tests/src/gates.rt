@@ -1,5 +1,7 @@
 //! Gates that tell what threads do.
 
+ghost use Rattle.std.specs.Prelude.{◌≡◌};
+
 use link_claim::Gate;
 use std::sync::atomic::{AtomicU64, Ordering};
 
@@ -13,7 +15,9 @@ pub(crate) struct Meeting {
 
 impl Meeting {
     /// It waits for so many.
-    pub(crate) fn of(wanted: u64) -> Meeting {
+    pub(crate) fn of(wanted: u64) -> Meeting
+        ensures { result.wanted ≡ wanted }
+    {
         Meeting {
             wanted,
             came: AtomicU64::new(0),

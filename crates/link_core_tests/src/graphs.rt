@@ -114,6 +114,7 @@ pub(crate) fn scattered(alloc: Global, count: usize) -> Result<Vec<Edge>, AllocE
 }
 
 /// The least set of so many numbers that has the first ones and is closed under edges.
+/// The set is left to the clause of `least_closed`: this is what tests compare with.
 pub(crate) fn reached(
     alloc: Global,
     roots: usize,

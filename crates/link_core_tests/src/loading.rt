@@ -1,6 +1,6 @@
 //! The objects of a link come into a database and are loaded.
 
-ghost use Rattle.std.specs.Prelude.{◌≡◌, [], IfOk, OnOk, length};
+ghost use Rattle.std.specs.Prelude.{◌≡◌, [], IfOk, OnOk, filter, length};
 ghost use Rattle.link_flags.specs.FlagWords.{words_of};
 ghost use Rattle.link_db.specs.Database.{HasTable, no_names, symbol_names};
 ghost use Rattle.link_files.specs.GroupFiles.{symbols_in};
@@ -19,7 +19,9 @@ use std::alloc::Global;
 use std::thread::Threads;
 
 /// How many marks are set.
-pub(crate) fn count_of(marks: &[bool]) -> usize {
+pub(crate) fn count_of(marks: &[bool]) -> usize
+    ensures { result ≡ length (filter (λ mark. mark) marks.now) }
+{
     marks.iter().filter(|mark| **mark).count()
 }
 

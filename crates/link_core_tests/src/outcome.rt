@@ -1,6 +1,6 @@
 //! What is left of a link once its objects are loaded and its rivals settled.
 
-ghost use Rattle.std.specs.Prelude.{◌≡◌, length};
+ghost use Rattle.std.specs.Prelude.{◌≡◌, filter, length};
 ghost use Rattle.link_db.specs.Database.{HasTable};
 ghost use Rattle.link_db.specs.Seen.{seen};
 ghost use Rattle.link_files.specs.GroupFiles.{symbols_in};
@@ -35,7 +35,9 @@ pub(crate) struct Outcome {
 
 impl Outcome {
     /// How many objects are loaded.
-    pub(crate) fn count(&self) -> usize {
+    pub(crate) fn count(&self) -> usize
+        ensures { result ≡ length (filter (λ mark. mark) self.now.loaded.items) }
+    {
         count_of(&self.loaded)
     }
 }
@@ -57,6 +59,7 @@ fn settled_table(
 }
 
 /// Loads the objects of a link by so many workers, and settles rivals.
+/// What is left is open here: tests compare it, and the clauses of the calls say what it is.
 pub(crate) fn load<R: Threads + Sync, G: Gate + Sync>(
     rt: &R,
     alloc: Global,

@@ -33,6 +33,7 @@ pub(crate) struct Shape {
 
 impl Shape {
     /// Objects without symbols.
+    /// What a shape is of is left open, here and below: tests show it.
     pub(crate) fn without_symbols(
         alloc: Global,
         required: usize,
@@ -46,6 +47,7 @@ impl Shape {
     }
 
     /// Adds a symbol to an object, if there is such an object.
+    /// What is added is left open.
     pub(crate) fn add(&mut self, object: usize, name: usize, kind: Kind) -> Result<(), AllocError> {
         if let Some(symbols) = self.objects.get_mut(object) {
             symbols.push(Symbol { name, kind })?;
@@ -55,6 +57,7 @@ impl Shape {
 
     /// So many objects, of which each member defines the name of its own number, and for each edge the object at its start refers to the name of
     /// that at its end.
+    /// What it is of is left open.
     pub(crate) fn of_edges(
         alloc: Global,
         required: usize,
@@ -114,6 +117,7 @@ fn table_of(alloc: Global, symbols: &[Symbol]) -> Result<ObjectTable, AllocError
 }
 
 /// The files of a link.
+/// What they hold is left open: what is loaded of them shows it.
 pub(crate) fn inputs_of(alloc: Global, shape: &Shape) -> Result<Inputs<ElfLike>, AllocError> {
     let mut objects = Seq::new(alloc);
     for (place, symbols) in shape.objects.iter().enumerate() {

@@ -7,12 +7,13 @@ use link_buckets::key_hash;
 use link_ids::SymbolId;
 use link_input::Platform;
 use link_mapping::MappedNames;
+use std::alloc::{AllocError, Global};
 
 impl<P: Platform> SymbolDb<P> {
-    ghost use Rattle.std.specs.Prelude.{◌≡◌, ◌≢◌, ◌<◌, ◌||◌, ℕ, All, AllPairs, Contains, IfSome, Some, length, not};
+    ghost use Rattle.std.specs.Prelude.{◌≡◌, ◌≢◌, ◌<◌, ◌||◌, ℕ, All, AllPairs, Contains, IfOk, IfSome, Some, length, not};
     ghost use Rattle.link_flags.specs.Pick.{pick};
     ghost use Rattle.link_files.specs.HeldFiles.{is_shared_in};
-    ghost use Rattle.link_mapping.specs.Mapped.{later_in, later_versioned_in, mapping_of};
+    ghost use Rattle.link_mapping.specs.Mapped.{AreHeadsMarked, later_in, later_versioned_in, mapping_of};
     ghost use Rattle.link_rules.specs.Places.{Bytes};
     ghost use Rattle.link_rules.specs.Targets.{mapped_in, target_in, unshared_in};
     ghost use Rattle.link_db.specs.Database.{name_table_of, symbol_names};
@@ -85,6 +86,14 @@ impl<P: Platform> SymbolDb<P> {
         ensures within { All (λ later. later < length (symbol_names (seen self.now))) result.now }
     {
         self.mapping.later_versioned_definitions(id)
+    }
+
+    /// A mark for each symbol of which definitions come later, by its name, or by its name and version: a symbol without a mark has none. The only refusal is
+    /// want of memory.
+    pub fn heads_of_several(&self, alloc: Global) -> Result<Vec<bool>, AllocError>
+        ensures { IfOk result (λ marks. AreHeadsMarked (seen self.now).mapping marks.items) }
+    {
+        self.mapping.heads_of_several(alloc)
     }
 
     /// The pick of the later definitions of a symbol's name that are not shared.

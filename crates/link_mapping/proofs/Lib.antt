@@ -1,5 +1,6 @@
 pub mod Listing
 pub mod Telling
+pub mod Unmarked
 pub mod Overrides
 pub mod Wraps
 pub mod Grown

@@ -1,5 +1,6 @@
 -- Which symbols define a name, and what it is mapped to.
-use Rattle.std.specs.Prelude.{◌≡◌, ℕ, List, [], Option, None, Some, slice_get}
+use Rattle.std.specs.Prelude.{◌≡◌, ℕ, Bool, false, List, [], Option, None, Some, slice_get}
+use Rattle.std.specs.List.{slice_index_or}
 use Rattle.std.specs.Option.{option_map_or, option_or}
 use Rattle.link_buckets.specs.Keys.{Key}
 use Rattle.link_files.specs.HeldFiles.{HeldFiles, names_in, version_of}
@@ -43,3 +44,8 @@ later_in m id = later_with m None id
 -- the definitions of its name and version that come after the symbol, where it is the first of them
 abbrev pub later_versioned_in : {P : Type 0} → Mapped P → ℕ → List ℕ
 later_versioned_in m id = option_map_or (λ version. later_with m (Some version) id) (version_of m.files id) []
+
+-- a symbol without a mark has no definitions that come later, neither by its name nor by its name and version
+pub record AreHeadsMarked {P : Type 0} (m : Mapped P) (marks : List Bool) : Type 0 where
+  pub plain : (id : ℕ) → slice_index_or marks id false ≡ false → later_in m id ≡ []
+  pub versioned : (id : ℕ) → slice_index_or marks id false ≡ false → later_versioned_in m id ≡ []

@@ -35,7 +35,7 @@ impl<P: Platform> SymbolMapping<P> {
     ghost use Rattle.std.specs.Option.{option_map_or};
     ghost use Rattle.link_buckets.specs.Keys.{Key, hash_of, key_of};
     ghost use Rattle.link_files.specs.HeldFiles.{names_in};
-    ghost use Rattle.link_mapping.specs.Mapped.{later_in, later_versioned_in, later_with, mapped_key, mapping_of};
+    ghost use Rattle.link_mapping.specs.Mapped.{AreHeadsMarked, later_in, later_versioned_in, later_with, mapped_key, mapping_of};
     ghost use Rattle.link_mapping.specs.Seen.{seen};
 
     /// No files, and so many buckets for names. The only refusal is want of memory.
@@ -128,6 +128,16 @@ impl<P: Platform> SymbolMapping<P> {
             Some(definitions) => behind(definitions, id),
             None => &[],
         }
+    }
+
+    /// A mark for each symbol of which definitions come later, by its name, or by its name and version: a symbol without a mark has none. So a pass over all
+    /// symbols looks at the names of few. The only refusal is want of memory.
+    pub fn heads_of_several(&self, alloc: Global) -> Result<Vec<bool>, AllocError>
+        ensures { IfOk result (λ marks. AreHeadsMarked (seen self.now) marks.items) }
+    {
+        let mut marks = vec![in alloc; false; self.tables.files.num_symbols()]?;
+        self.buckets.mark_firsts(&mut marks);
+        Ok(marks)
     }
 
     /// Gives up the definitions of each name behind its first, and their memory.

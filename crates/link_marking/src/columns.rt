@@ -3,7 +3,6 @@
 ghost use Rattle.std.specs.Prelude.{◌≡◌, ◌++◌, ◌∷◌, [], IfOk, OnOk, map};
 ghost use Rattle.link_files.specs.GroupFiles.{symbols_in};
 ghost use Rattle.link_input.specs.Symbols.{is_shared, object_in, visibility_in};
-ghost use Rattle.link_rules.specs.Names.{is_listed, is_version_listed};
 ghost use Rattle.link_rules.specs.Rivals.{is_in_loaded_regular};
 
 use link_files::Files;
@@ -34,23 +33,15 @@ pub struct RivalColumns {
     pub dynamic: Vec<bool>,
     /// How far the symbol can be seen.
     pub visibilities: Vec<Visibility>,
-    /// Whether the symbol is a definition that is found by its plain name.
-    pub listed: Vec<bool>,
-    /// Whether the symbol is a definition that is found by its name and version.
-    pub version_listed: Vec<bool>,
 }
 
 /// Adds what a symbol says to the columns.
 fn push_symbol(columns: &mut RivalColumns, symbol: &SymbolView) -> Result<(), AllocError>
     ensures dynamic { OnOk result (columns.new.dynamic.items ≡ columns.old.dynamic.items ++ is_shared symbol.now.origin ∷ []) }
     ensures visibilities { OnOk result (columns.new.visibilities.items ≡ columns.old.visibilities.items ++ visibility_in symbol.now.origin ∷ []) }
-    ensures listed { OnOk result (columns.new.listed.items ≡ columns.old.listed.items ++ is_listed symbol.now ∷ []) }
-    ensures version_listed { OnOk result (columns.new.version_listed.items ≡ columns.old.version_listed.items ++ is_version_listed symbol.now ∷ []) }
 {
     columns.dynamic.push(symbol.is_shared())?;
     columns.visibilities.push(symbol.visibility())?;
-    columns.listed.push(symbol.is_listed())?;
-    columns.version_listed.push(symbol.is_version_listed())?;
     Ok(())
 }
 
@@ -61,15 +52,11 @@ pub fn rival_columns<P: Platform>(
 ) -> Result<RivalColumns, AllocError>
     ensures dynamic { IfOk result (λ columns. columns.dynamic.items ≡ map (λ x. is_shared x.origin) (symbols_in files.now.groups)) }
     ensures visibilities { IfOk result (λ columns. columns.visibilities.items ≡ map (λ x. visibility_in x.origin) (symbols_in files.now.groups)) }
-    ensures listed { IfOk result (λ columns. columns.listed.items ≡ map is_listed (symbols_in files.now.groups)) }
-    ensures version_listed { IfOk result (λ columns. columns.version_listed.items ≡ map is_version_listed (symbols_in files.now.groups)) }
 {
     let count = files.num_symbols();
     let mut columns = RivalColumns {
         dynamic: Vec::with_capacity(alloc, count)?,
         visibilities: Vec::with_capacity(alloc, count)?,
-        listed: Vec::with_capacity(alloc, count)?,
-        version_listed: Vec::with_capacity(alloc, count)?,
     };
     for (_, symbol) in symbols(files) {
         push_symbol(&mut columns, &symbol)?;

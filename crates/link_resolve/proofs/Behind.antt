@@ -1,7 +1,6 @@
 -- What a database lists behind a symbol is what stands behind it in its list of rivals.
 use Rattle.std.proofs.Common.{◌≡◌, ◌∙◌, ◌++◌, ℕ, zero, suc, Bool, true, false, List, [], ◌∷◌, Contains, Option, Some, None, refl, sym, ap, map, inl, inr, subst, append-nil, length, if◌then◌else◌}
 use Rattle.std.specs.Prelude.{slice_get}
-use Rattle.std.specs.List.{slice_index_or}
 use Rattle.std.specs.Option.{option_map_or}
 use Rattle.std.proofs.lemmas.Bool.Decides.{eqb_tells}
 use Rattle.link_input.specs.declared.options.Options.{Options}
@@ -119,24 +118,3 @@ versioned-later platform db listed s = by (slice_get symbols s) refl
     by : (o : Option Symbol) → slice_get symbols s ≡ o → later_versioned_in db.mapping s ≡ behind_head s (versioned_rivals symbols s)
     by None at = rw at refl
     by (Some x) at = rw at (by_version x at x.version refl)
-
--- where a test fails at a place, nothing is listed there
-unlisted : (test : Symbol → Bool) (list : Symbol → List ℕ) (xs : List Symbol) (s : ℕ) → slice_index_or (map test xs) s false ≡ false
-    → option_map_or (λ x. if test x then list x else []) (slice_get xs s) [] ≡ []
-unlisted test list [] s fails = refl
-unlisted test list (x ∷ xs) zero fails = ap (λ (b : Bool). if b then list x else []) fails
-unlisted test list (x ∷ xs) (suc s) fails = unlisted test list xs s fails
-
--- nothing stands behind a symbol that its plain name doesn't find
-pub plain-none : (symbols : List Symbol) (found : List Bool) (s : ℕ) (b : Bool) → found ≡ map is_listed symbols → b ≡ slice_index_or found s false → b ≡ false
-    → [] ≡ behind_head s (plain_rivals symbols s)
-plain-none symbols found s b column is fails =
-    let at : slice_index_or (map is_listed symbols) s false ≡ false = ap (λ (bs : List Bool). slice_index_or bs s false) (sym column) ∙ sym is ∙ fails in
-    sym (ap (behind_head s) (unlisted is_listed (λ x. definitions_of symbols x.name) symbols s at))
-
--- nor behind one that its name and version don't find
-pub versioned-none : (symbols : List Symbol) (found : List Bool) (s : ℕ) (b : Bool) → found ≡ map is_version_listed symbols → b ≡ slice_index_or found s false → b ≡ false
-    → [] ≡ behind_head s (versioned_rivals symbols s)
-versioned-none symbols found s b column is fails =
-    let at : slice_index_or (map is_version_listed symbols) s false ≡ false = ap (λ (bs : List Bool). slice_index_or bs s false) (sym column) ∙ sym is ∙ fails in
-    sym (ap (behind_head s) (unlisted is_version_listed (λ x. option_map_or (versioned_definitions_of symbols x.name) x.version []) symbols s at))

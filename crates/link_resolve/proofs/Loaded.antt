@@ -26,7 +26,7 @@ use Rattle.link_rules.specs.Rules.{PlatformRules}
 use Rattle.link_stage.specs.AtStage.{IsAtStage}
 use Rattle.link_symbols.specs.Lookups.{IsSelectionOf}
 use Rattle.link_db.specs.Database.{Database, symbol_names}
-use Rattle.link_resolve.specs.Known.{IsSelection, Known}
+use Rattle.link_resolve.specs.Known.{IsLoadedSelection, IsSelection, Known}
 use Rattle.link_resolve.specs.Resolving.{IsNextStage, Resolving, known_of}
 
 -- all of this
@@ -66,14 +66,30 @@ all-named db none =
     ap (λ (added : List Bytes). length (map (λ (x : Symbol). x.name) (symbols_in db.mapping.files.groups) ++ added)) none
     ∙ (ap length (append-nil (map (λ (x : Symbol). x.name) (symbols_in db.mapping.files.groups))) ∙ length-map (symbols_in db.mapping.files.groups) (λ (x : Symbol). x.name))
 
+-- of a selection of which all is known, it is known what is loaded
+pub loaded-of : {P : Type 0} (platform : PlatformRules) (demangle : Bytes → Bytes) (db : Database P) (known : Known) (l : Selection) → IsSelection platform demangle db known l → IsLoadedSelection platform demangle db known l
+loaded-of platform demangle db known l is = record { stage = is.stage; marks = is.marks; targets = is.targets }
+
 -- a selection of which a database tells, as a pass over its symbols looks it up
 pub selection-of : {P : Type 0} (platform : PlatformRules) (demangle : Bytes → Bytes) (db : Database P) (known : Known) (l : Selection) (symbols : List Symbol) (targets : List (Option ℕ))
-    → IsSelection platform demangle db known l → symbols ≡ symbols_in db.mapping.files.groups → targets ≡ known.targets → IsSelectionOf symbols (mapping_of db.mapping) targets l
+    → IsLoadedSelection platform demangle db known l → symbols ≡ symbols_in db.mapping.files.groups → targets ≡ known.targets → IsSelectionOf symbols (mapping_of db.mapping) targets l
 selection-of platform demangle db known l symbols targets is symbols_are targets_are = record {
   symbols_are = is.stage.symbols ∙ sym symbols_are;
   names_are = λ name. sym (is.stage.names name);
   targets_are = is.targets ∙ sym targets_are;
 }
+
+-- what was found of loaded objects is known of a selection of as many
+pub is-loaded-selection : {P : Type 0} (platform : PlatformRules) (demangle : Bytes → Bytes) (db : Database P) (w : Stage) (marks loaded : List Bool) (targets : List (Option ℕ)) (strengths : List SymbolStrength) (known : Known)
+    → IsAtStage platform demangle db w → IsLoaded w loaded → IsLoaded w marks → targets ≡ each_from (loaded_target w loaded) 0 w.symbols → known ≡ known_with loaded targets strengths
+    → IsLoadedSelection platform demangle db known (selection_of w marks)
+is-loaded-selection platform demangle db w marks loaded targets strengths known at own asked targets_are is =
+    let same = one-loaded w loaded marks own asked in
+    record {
+      stage = at;
+      marks = sym same ∙ ap (λ (k : Known). k.marks) (sym is);
+      targets = ap (λ (ms : List Bool). each_from (loaded_target w ms) 0 w.symbols) (sym same) ∙ (sym targets_are ∙ ap (λ (k : Known). k.targets) (sym is));
+    }
 
 -- where there is an object, no object is no cause
 pub not-empty : (w : Stage) (count : ℕ) → count ≡ length w.objects → 1 ≤ count → empty_refusal w ≡ None
@@ -102,6 +118,19 @@ is-selection {P} platform demangle old new w marks known mapping options rules a
   targets = sym (ap (λ (k : Known). k.targets) is);
   strengths = sym (ap (λ (k : Known). k.strengths) is);
 }
+
+-- behind the last batch, what is known of a selection is all of it, once it was computed how strongly symbols bind
+pub pointed-is : {P : Type 0} (platform : PlatformRules) (demangle : Bytes → Bytes) (old new : Database P) (w : Stage) (marks given : List Bool) (parts r : Resolving) (known : Known) (symbols : List Symbol) (strengths : List SymbolStrength)
+    → parts ≡ r → IsLoadedSelection platform demangle old r.known (selection_of w marks) → AreGroupsOf marks w.objects r.groups
+    → given ≡ parts.known.marks → symbols ≡ symbols_in old.mapping.files.groups → strengths ≡ map (λ x. surviving_origin given (discarded_in parts.groups) x.origin) symbols
+    → known ≡ record parts.known { strengths = strengths } → new.mapping ≡ old.mapping → new.options ≡ old.options → new.rules ≡ old.rules
+    → IsSelection platform demangle new known (selection_of w marks)
+pointed-is platform demangle old new w marks given parts r known symbols strengths same at groups given_is symbols_are is known_is mapping options rules =
+    let own : parts.known.marks ≡ marks = ap (λ (x : Resolving). x.known.marks) same ∙ sym at.marks in
+    let targets : parts.known.targets ≡ (selection_of w marks).targets = ap (λ (x : Resolving). x.known.targets) same ∙ sym at.targets in
+    let are : AreGroupsOf marks w.objects parts.groups = subst (λ (x : Resolving). AreGroupsOf marks w.objects x.groups) (sym same) groups in
+    let binds : strengths ≡ (selection_of w marks).strengths = strengths-are w marks given symbols parts.groups strengths are (given_is ∙ own) (symbols_are ∙ sym at.stage.symbols) is in
+    is-selection platform demangle old new w marks known mapping options rules at.stage (known_is ∙ (λ i. record { marks = own i; targets = targets i; strengths = binds i }))
 
 -- a stage before which a resolver knew something, by what its parts know
 pub opened : {P : Type 0} {platform : PlatformRules} {demangle : Bytes → Bytes} {db : Database P} {w : Stage} {parts now : Resolving} → parts ≡ now → IsNextStage platform demangle db now.known w → IsNextStage platform demangle db parts.known w

@@ -15,6 +15,12 @@ pub record Known : Type 0 where
   pub targets : List (Option ℕ)
   pub strengths : List SymbolStrength
 
+-- a selection at a stage of the database, of which it is known what is loaded, and what references stand for
+pub record IsLoadedSelection {P : Type 0} (platform : PlatformRules) (demangle : Bytes → Bytes) (db : Database P) (known : Known) (l : Selection) : Type 0 where
+  pub stage : IsAtStage platform demangle db l.stage
+  pub marks : l.marks ≡ known.marks
+  pub targets : l.targets ≡ known.targets
+
 -- a selection at a stage of the database, of which this is known
 pub record IsSelection {P : Type 0} (platform : PlatformRules) (demangle : Bytes → Bytes) (db : Database P) (known : Known) (l : Selection) : Type 0 where
   pub stage : IsAtStage platform demangle db l.stage

@@ -1,6 +1,7 @@
 -- A batch of a link is resolved: which of its objects are loaded, and what follows for each symbol.
 use Rattle.std.specs.Prelude.{◌≡◌, ◌∷◌, [], List, Bool, Option}
 use Rattle.link_claim.specs.Seats.{Ending}
+use Rattle.link_flags.specs.declared.strength.SymbolStrength.{SymbolStrength}
 use Rattle.link_rules.specs.Orderly.{IsOrderly}
 use Rattle.link_rules.specs.Places.{Bytes}
 use Rattle.link_rules.specs.Refusals.{empty_refusal, first_cause, group_refusal}
@@ -33,6 +34,10 @@ pub record IsNextStage {P : Type 0} (platform : PlatformRules) (demangle : Bytes
 -- what is known of a selection
 abbrev pub known_of : Selection → Known
 known_of l = record { marks = l.marks; targets = l.targets; strengths = l.strengths }
+
+-- the same resolver, which knows that symbols bind so strongly
+abbrev pub with_strengths : List SymbolStrength → Resolving → Resolving
+with_strengths strengths r = record r { known = record r.known { strengths = strengths } }
 
 -- the first cause that a batch brings once it is read, where these objects are loaded: no object, or a section in two groups
 abbrev pub loading_cause : Stage → List Bool → Option LinkError

@@ -1,9 +1,8 @@
 //! The definitions of names, as lists of rivals.
 
-ghost use Rattle.std.specs.Prelude.{◌≡◌, false, map};
+ghost use Rattle.std.specs.Prelude.{◌≡◌, false};
 ghost use Rattle.std.specs.List.{slice_index_or};
-ghost use Rattle.link_files.specs.GroupFiles.{symbols_in};
-ghost use Rattle.link_rules.specs.Names.{is_listed, is_version_listed};
+ghost use Rattle.link_mapping.specs.Mapped.{AreHeadsMarked};
 ghost use Rattle.link_db.specs.Seen.{seen};
 ghost use Rattle.link_resolve.specs.Known.{IsListed};
 
@@ -12,15 +11,14 @@ use link_ids::SymbolId;
 use link_input::Platform;
 use link_rivals::RivalLists;
 
-/// The definitions of plain names. Most symbols are references, which stand in no list: so a column says which symbols are worth
-/// a look-up of their names.
+/// The definitions of plain names. Most names have one definition at most: so a mark tells which symbols are worth a look-up of their names.
 #[derive(Drop)]
 pub struct PlainLists<'a, P: Platform> {
     pub db: &'a SymbolDb<P>,
-    /// Whether the symbol of an id is found by its plain name.
-    pub found: &'a [bool],
+    /// What `heads_of_several` says of the symbol of an id.
+    pub heads: &'a [bool],
     ghost listed: { IsListed (seen db.now) },
-    ghost column: { found.now ≡ map is_listed (symbols_in (seen db.now).mapping.files.groups) },
+    ghost marked: { AreHeadsMarked (seen db.now).mapping heads.now },
 }
 
 impl<'a, P: Platform> RivalLists for PlainLists<'a, P> {
@@ -34,7 +32,7 @@ impl<'a, P: Platform> RivalLists for PlainLists<'a, P> {
     ghost count = { λ lists. length (symbols_in (seen lists.db.now).mapping.files.groups) };
 
     fn later(&self, id: SymbolId) -> &[u32] {
-        if !is_found(self.found, id) {
+        if !is_head(self.heads, id) {
             return &[];
         }
         self.db.later_definitions(id)
@@ -45,10 +43,10 @@ impl<'a, P: Platform> RivalLists for PlainLists<'a, P> {
 #[derive(Drop)]
 pub struct VersionedLists<'a, P: Platform> {
     pub db: &'a SymbolDb<P>,
-    /// Whether the symbol of an id is found by its name and version.
-    pub found: &'a [bool],
+    /// What `heads_of_several` says of the symbol of an id.
+    pub heads: &'a [bool],
     ghost listed: { IsListed (seen db.now) },
-    ghost column: { found.now ≡ map is_version_listed (symbols_in (seen db.now).mapping.files.groups) },
+    ghost marked: { AreHeadsMarked (seen db.now).mapping heads.now },
 }
 
 impl<'a, P: Platform> RivalLists for VersionedLists<'a, P> {
@@ -62,19 +60,19 @@ impl<'a, P: Platform> RivalLists for VersionedLists<'a, P> {
     ghost count = { λ lists. length (symbols_in (seen lists.db.now).mapping.files.groups) };
 
     fn later(&self, id: SymbolId) -> &[u32] {
-        if !is_found(self.found, id) {
+        if !is_head(self.heads, id) {
             return &[];
         }
         self.db.later_versioned_definitions(id)
     }
 }
 
-/// What the column says of the symbol.
-fn is_found(found: &[bool], id: SymbolId) -> bool
-    ensures { result ≡ slice_index_or found.now id false }
+/// Whether the symbol has a mark.
+fn is_head(heads: &[bool], id: SymbolId) -> bool
+    ensures { result ≡ slice_index_or heads.now id false }
 {
-    match found.get(id.as_usize()) {
-        Some(is_found) => *is_found,
+    match heads.get(id.as_usize()) {
+        Some(is_head) => *is_head,
         None => false,
     }
 }

@@ -43,6 +43,13 @@ impl Resolved {
         }
     }
 
+    /// Symbols bind so strongly.
+    pub(crate) fn set_strengths(&mut self, strengths: Vec<SymbolStrength>)
+        ensures { self.new ≡ record self.old { strengths = strengths.items } }
+    {
+        self.strengths = strengths;
+    }
+
     /// A mark for each loaded object, by its place among all objects of the link.
     pub fn loaded(&self) -> &[bool]
         ensures { result.now ≡ self.now.marks }

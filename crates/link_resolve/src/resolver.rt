@@ -1,6 +1,6 @@
 //! The resolver: which objects of a link are loaded, and what follows for each symbol.
 
-ghost use Rattle.std.specs.Prelude.{◌≡◌, ◌≤◌, ◌<◌, All, Bool, IfOk, IfSome, IsTrue, List, OnErr, OnOk, is_some, length, option_map};
+ghost use Rattle.std.specs.Prelude.{◌≡◌, ◌≤◌, ◌<◌, [], All, Bool, IfOk, IfSome, IsTrue, List, OnErr, OnOk, is_some, length, option_map};
 ghost use Rattle.link_discarding.specs.Indexed.{AreGroupsOf};
 ghost use Rattle.link_files.specs.GroupFiles.{symbols_in};
 ghost use Rattle.link_files.specs.Inputs.{objects_in};
@@ -22,8 +22,8 @@ ghost use Rattle.link_rules.specs.World.{Stage};
 ghost use Rattle.link_symbols.specs.Lookups.{AreBelow};
 ghost use Rattle.link_db.specs.Database.{HasTable, symbol_names};
 ghost use Rattle.link_db.specs.Seen.{seen};
-ghost use Rattle.link_resolve.specs.Known.{IsListed, IsSelection};
-ghost use Rattle.link_resolve.specs.Resolving.{IsNextStage, known_of, loading_cause, nothing_known};
+ghost use Rattle.link_resolve.specs.Known.{IsListed, IsLoadedSelection, IsSelection};
+ghost use Rattle.link_resolve.specs.Resolving.{IsNextStage, known_of, loading_cause, nothing_known, with_strengths};
 
 use crate::definitions::{Definitions, names_are_mapped_to_symbols};
 use crate::resolved::Resolved;
@@ -97,6 +97,39 @@ fn loaded_with_targets<R: Threads + Sync, G: Gate + Sync, P: Platform + Sync>(
     )
 }
 
+/// The loaded objects of a batch, and the section groups of the regular ones among them.
+fn loaded_with_groups<R: Threads + Sync, G: Gate + Sync, P: Platform + Sync>(
+    rt: &R,
+    alloc: Global,
+    gate: &G,
+    workers: usize,
+    db: &SymbolDb<P>,
+    earlier: &Resolved,
+    flags: &PerSymbolFlags,
+) -> Result<(LoadedObjects, LoadedGroups), LinkError>
+    requires loaded { length earlier.now.marks ≤ length (objects_in (seen db.now).mapping.files.groups) }
+    requires targets { AreBelow (length (symbol_names (seen db.now))) earlier.now.targets }
+    ensures cause { (demangle : Bytes → Bytes) (w : Stage) → IsNextStage (platform_of P.Platform) demangle (seen db.now) earlier.now w
+        → (marks : List Bool) → IsLoaded w marks → TellsCause (group_refusal (selection_of w marks)) result }
+    ensures loaded { IfOk result (λ found. (demangle : Bytes → Bytes) (w : Stage) → IsNextStage (platform_of P.Platform) demangle (seen db.now) earlier.now w
+        → IsLoaded w found.0.loaded.items) }
+    ensures targets { IfOk result (λ found. (demangle : Bytes → Bytes) (w : Stage) → IsNextStage (platform_of P.Platform) demangle (seen db.now) earlier.now w
+        → found.0.targets.items ≡ each_from (loaded_target w found.0.loaded.items) 0 w.symbols) }
+    ensures groups { IfOk result (λ found. (demangle : Bytes → Bytes) (w : Stage) → IsNextStage (platform_of P.Platform) demangle (seen db.now) earlier.now w
+        → (marks : List Bool) → IsLoaded w marks → AreGroupsOf marks w.objects found.1) }
+    ensures below { IfOk result (λ found. AreBelow (length (symbol_names (seen db.now))) found.0.targets.items) }
+    ensures work { IfOk result (λ found. (demangle : Bytes → Bytes) (w : Stage) → IsNextStage (platform_of P.Platform) demangle (seen db.now) earlier.now w
+        → found.0.closed.view.work ≡ record (workload_of w) { opening = opening_of (length (symbol_names (seen db.now))) (numbers_of (words_of flags.now)) }) }
+    ensures read { IfOk result (λ found. HasReadAll found.0.closed.view) }
+    ensures closed { IfOk result (λ found. IsSettled found.0.closed) }
+    ensures symbols { IfOk result (λ found. length found.0.closed.view.work.opening ≡ length (symbol_names (seen db.now))) }
+    ensures requests { IfOk result (λ found. found.0.requests ≡ requests_of found.0.closed.view.work found.0.loaded.items) }
+{
+    let found = loaded_with_targets(rt, alloc, gate, workers, db, earlier, flags)?;
+    let groups = LoadedGroups::select(alloc, db.groups(), &found.loaded)?;
+    Ok((found, groups))
+}
+
 /// What is known once the objects of a batch are loaded, the groups of those, the words that threads shared, and how many requests were made.
 fn resolve_objects<R: Threads + Sync, G: Gate + Sync, P: Platform + Sync>(
     rt: &R,
@@ -124,14 +157,13 @@ fn resolve_objects<R: Threads + Sync, G: Gate + Sync, P: Platform + Sync>(
     ensures symbols { IfOk result (λ found. length found.2.view.work.opening ≡ length (symbol_names (seen db.now))) }
     ensures requests { IfOk result (λ found. found.3 ≡ requests_of found.2.view.work found.0.marks) }
 {
-    let found = loaded_with_targets(rt, alloc, gate, workers, db, earlier, flags)?;
+    let (found, groups) = loaded_with_groups(rt, alloc, gate, workers, db, earlier, flags)?;
     let LoadedObjects {
         closed,
         loaded,
         targets,
         requests,
     } = found;
-    let groups = LoadedGroups::select(alloc, db.groups(), &loaded)?;
     let strengths = surviving_strengths(alloc, db.files(), &loaded, &groups)?;
     let resolved = Resolved::new(loaded, targets, strengths);
     Ok((resolved, groups, closed, requests))
@@ -145,7 +177,7 @@ fn first_table<P: Platform>(
 ) -> Result<Vec<SymbolId>, AllocError>
     requires listed { IsListed (seen db.now) }
     requires below { AreBelow (length (symbol_names (seen db.now))) resolved.now.targets }
-    ensures table { IfOk result (λ table. (demangle : Bytes → Bytes) (l : Selection) → IsSelection (platform_of P.Platform) demangle (seen db.now) resolved.now l
+    ensures table { IfOk result (λ table. (demangle : Bytes → Bytes) (l : Selection) → IsLoadedSelection (platform_of P.Platform) demangle (seen db.now) resolved.now l
         → table.items ≡ reference_table l) }
     ensures whole { IfOk result (λ table. length table.items ≡ length (symbol_names (seen db.now))) }
     ensures within { IfOk result (λ table. All (λ entry. entry < length (symbol_names (seen db.now))) table.items) }
@@ -258,6 +290,101 @@ impl Resolver {
         self.closed = Some(closed);
         Ok(requests)
     }
+
+    /// Loads the objects of a batch as `resolve_counted` does, and tells how many requests were made; what each symbol points to, and how strongly it binds, is
+    /// left to `point_references`, which is asked once behind the last batch. So a batch doesn't pay for all symbols of those before it.
+    pub fn load_batch<R: Threads + Sync, G: Gate + Sync, P: Platform + Sync>(
+        &mut self,
+        rt: &R,
+        alloc: Global,
+        gate: &G,
+        workers: usize,
+        db: &SymbolDb<P>,
+        flags: &mut PerSymbolFlags,
+    ) -> Result<u64, LinkError>
+        requires listed { IsListed (seen db.now) }
+        requires loaded { length self.old.known.marks ≤ length (objects_in (seen db.now).mapping.files.groups) }
+        requires targets { AreBelow (length (symbol_names (seen db.now))) self.old.known.targets }
+        ensures cause { (demangle : Bytes → Bytes) (w : Stage) → IsNextStage (platform_of P.Platform) demangle (seen db.now) self.old.known w
+            → (marks : List Bool) → IsLoaded w marks → TellsCause (loading_cause w marks) result }
+        ensures selection { OnOk result ((demangle : Bytes → Bytes) (w : Stage) → IsNextStage (platform_of P.Platform) demangle (seen db.now) self.old.known w
+            → (marks : List Bool) → IsLoaded w marks → IsLoadedSelection (platform_of P.Platform) demangle (seen db.now) self.new.known (selection_of w marks)) }
+        ensures groups { OnOk result ((demangle : Bytes → Bytes) (w : Stage) → IsNextStage (platform_of P.Platform) demangle (seen db.now) self.old.known w
+            → (marks : List Bool) → IsLoaded w marks → AreGroupsOf marks w.objects self.new.groups) }
+        ensures flags { OnOk result ((demangle : Bytes → Bytes) (w : Stage) → IsNextStage (platform_of P.Platform) demangle (seen db.now) self.old.known w
+            → (marks : List Bool) → IsLoaded w marks → numbers_of (words_of flags.old) ≡ each_from (flags_before w) 0 w.symbols
+            → numbers_of (words_of flags.new) ≡ marked_flags (selection_of w marks)) }
+        ensures work { OnOk result ((demangle : Bytes → Bytes) (w : Stage) → IsNextStage (platform_of P.Platform) demangle (seen db.now) self.old.known w
+            → numbers_of (words_of flags.old) ≡ each_from (flags_before w) 0 w.symbols → IfSome self.new.closed (λ words. words.view.work ≡ workload_of w)) }
+        ensures shared { OnOk result (IsTrue (is_some self.new.closed)) }
+        ensures read { OnOk result (IfSome self.new.closed (λ words. HasReadAll words.view × IsSettled words)) }
+        ensures requests { IfOk result (λ n. (demangle : Bytes → Bytes) (w : Stage) → IsNextStage (platform_of P.Platform) demangle (seen db.now) self.old.known w
+            → (marks : List Bool) → IsLoaded w marks → n ≡ requests_of (workload_of w) marks) }
+        ensures counted { IfOk result (λ n. IfSome self.new.closed (λ words. n ≡ requests_of words.view.work self.new.known.marks)) }
+        ensures targets { OnOk result (AreBelow (length (symbol_names (seen db.now))) self.new.known.targets) }
+        ensures strengths { OnOk result (self.new.known.strengths ≡ []) }
+        ensures words { length (words_of flags.new) ≡ length (words_of flags.old) }
+        ensures unchanged { OnErr result (self.new ≡ self.old) }
+        ensures flags_unchanged { OnErr result (words_of flags.new ≡ words_of flags.old) }
+    {
+        if db.num_regular_objects() == 0 {
+            return Err(LinkError::NoInputs);
+        }
+        let (found, groups) = loaded_with_groups(
+            rt,
+            alloc,
+            gate,
+            workers,
+            db,
+            &self.resolved,
+            flags,
+        )?;
+        write_flags(&found.closed, db.num_symbols(), flags);
+        let LoadedObjects {
+            closed,
+            loaded,
+            targets,
+            requests,
+        } = found;
+        self.resolved = Resolved::new(loaded, targets, Vec::new(alloc));
+        self.groups = groups;
+        self.closed = Some(closed);
+        Ok(requests)
+    }
+
+    /// Behind the last batch: each symbol points to what it stands for before rivals are settled, and it is known how strongly each symbol binds. What was loaded
+    /// by `load_batch` is then as `resolve_counted` leaves it. The only refusal is want of memory; then resolver and database are as before.
+    pub fn point_references<P: Platform>(
+        &mut self,
+        alloc: Global,
+        db: &mut SymbolDb<P>,
+    ) -> Result<(), AllocError>
+        requires listed { IsListed (seen db.old) }
+        requires targets { AreBelow (length (symbol_names (seen db.old))) self.old.known.targets }
+        ensures selection { OnOk result ((demangle : Bytes → Bytes) (w : Stage) (marks : List Bool)
+            → IsLoadedSelection (platform_of P.Platform) demangle (seen db.old) self.old.known (selection_of w marks) → AreGroupsOf marks w.objects self.old.groups
+            → IsSelection (platform_of P.Platform) demangle (seen db.new) self.new.known (selection_of w marks)) }
+        ensures table { OnOk result ((demangle : Bytes → Bytes) (l : Selection) → IsLoadedSelection (platform_of P.Platform) demangle (seen db.old) self.old.known l
+            → (seen db.new).table ≡ reference_table l) }
+        ensures resolver { self.new ≡ with_strengths self.new.known.strengths self.old }
+        ensures rest { seen db.new ≡ record (seen db.old) { table = (seen db.new).table } }
+        ensures whole { OnOk result (HasTable (seen db.new)) }
+        ensures strengths { OnOk result (length self.new.known.strengths ≡ length (symbols_in (seen db.new).mapping.files.groups)) }
+        ensures unchanged { OnErr result (self.new ≡ self.old) }
+        ensures db_unchanged { OnErr result (seen db.new ≡ seen db.old) }
+    {
+        let strengths = surviving_strengths(
+            alloc,
+            db.files(),
+            self.resolved.loaded(),
+            &self.groups,
+        )?;
+        let table = first_table(alloc, db, &self.resolved)?;
+        db.restore_definitions(table);
+        self.resolved.set_strengths(strengths);
+        Ok(())
+    }
+
     /// Loads the objects of a batch that count: the least set that has those that earlier batches had loaded, those that aren't optional and
     /// those of the root names, and with each object all that its references ask for. Each symbol points to what it stands for before rivals
     /// are settled, and the flags of what is referred to are joined with what references give. Mirrors Wild's call of this name.

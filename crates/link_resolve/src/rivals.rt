@@ -9,7 +9,7 @@ ghost use Rattle.link_loader.specs.Causes.{TellsCause};
 ghost use Rattle.link_loader.specs.Holds.{platform_of};
 ghost use Rattle.link_rivals.specs.Settled.{IsInside, clash_line};
 ghost use Rattle.link_rivals.specs.Survivors.{Tells};
-ghost use Rattle.link_rules.specs.Names.{is_listed, is_version_listed};
+ghost use Rattle.link_mapping.specs.Mapped.{AreHeadsMarked};
 ghost use Rattle.link_rules.specs.Places.{Bytes, each_from};
 ghost use Rattle.link_rules.specs.Refusals.{duplicate_lines, plain_duplicates, unless_none, versioned_duplicates};
 ghost use Rattle.link_rules.specs.Rivals.{plain_table, reference_table, versioned_table};
@@ -38,12 +38,12 @@ use std::alloc::{AllocError, Global};
 fn settle_plain<P: Platform>(
     alloc: Global,
     db: &SymbolDb<P>,
-    found: &[bool],
+    heads: &[bool],
     survivors: &Survivors,
     table: &mut [SymbolId],
 ) -> Result<Vec<Clash>, AllocError>
     requires listed { IsListed (seen db.now) }
-    requires found { found.now ≡ map is_listed (symbols_in (seen db.now).mapping.files.groups) }
+    requires heads { AreHeadsMarked (seen db.now).mapping heads.now }
     requires count { length table.old ≡ length (symbols_in (seen db.now).mapping.files.groups) }
     requires columns { length survivors.now.strengths.now ≡ length table.old }
     requires inside { All (λ t. t < length table.old) table.old }
@@ -56,7 +56,7 @@ fn settle_plain<P: Platform>(
     ensures len { length table.new ≡ length table.old }
     ensures told { IfOk result (λ told. All (IsInside (length table.old)) told.items) }
 {
-    let clashes = settle(alloc, survivors, &PlainLists { db, found }, table)?;
+    let clashes = settle(alloc, survivors, &PlainLists { db, heads }, table)?;
     Ok(clashes)
 }
 
@@ -64,12 +64,12 @@ fn settle_plain<P: Platform>(
 fn settle_versioned<P: Platform>(
     alloc: Global,
     db: &SymbolDb<P>,
-    found: &[bool],
+    heads: &[bool],
     survivors: &Survivors,
     table: &mut [SymbolId],
 ) -> Result<Vec<Clash>, AllocError>
     requires listed { IsListed (seen db.now) }
-    requires found { found.now ≡ map is_version_listed (symbols_in (seen db.now).mapping.files.groups) }
+    requires heads { AreHeadsMarked (seen db.now).mapping heads.now }
     requires count { length table.old ≡ length (symbols_in (seen db.now).mapping.files.groups) }
     requires columns { length survivors.now.strengths.now ≡ length table.old }
     requires inside { All (λ t. t < length table.old) table.old }
@@ -82,7 +82,7 @@ fn settle_versioned<P: Platform>(
     ensures len { length table.new ≡ length table.old }
     ensures told { IfOk result (λ told. All (IsInside (length table.old)) told.items) }
 {
-    let clashes = settle(alloc, survivors, &VersionedLists { db, found }, table)?;
+    let clashes = settle(alloc, survivors, &VersionedLists { db, heads }, table)?;
     Ok(clashes)
 }
 
@@ -92,13 +92,11 @@ fn settle_names<P: Platform>(
     db: &SymbolDb<P>,
     resolved: &Resolved,
     dynamic: &[bool],
-    found: &[bool],
-    version_found: &[bool],
+    heads: &[bool],
     table: &mut [SymbolId],
 ) -> Result<(Vec<Clash>, Vec<Clash>), AllocError>
     requires listed { IsListed (seen db.now) }
-    requires found { found.now ≡ map is_listed (symbols_in (seen db.now).mapping.files.groups) }
-    requires version_found { version_found.now ≡ map is_version_listed (symbols_in (seen db.now).mapping.files.groups) }
+    requires heads { AreHeadsMarked (seen db.now).mapping heads.now }
     requires dynamic { dynamic.now ≡ map (λ x. is_shared x.origin) (symbols_in (seen db.now).mapping.files.groups) }
     requires count { length table.old ≡ length (symbols_in (seen db.now).mapping.files.groups) }
     requires known { length resolved.now.strengths ≡ length (symbols_in (seen db.now).mapping.files.groups) }
@@ -122,8 +120,8 @@ fn settle_names<P: Platform>(
         weak_overrides_common: P::WEAK_SYMBOLS_OVERRIDE_COMMON,
         allow_multiple: db.options().allow_multiple,
     };
-    let plain = settle_plain(alloc, db, found, &survivors, table)?;
-    let versioned = settle_versioned(alloc, db, version_found, &survivors, table)?;
+    let plain = settle_plain(alloc, db, heads, &survivors, table)?;
+    let versioned = settle_versioned(alloc, db, heads, &survivors, table)?;
     Ok((plain, versioned))
 }
 
@@ -134,12 +132,10 @@ fn settle_table<P: Platform>(
     db: &mut SymbolDb<P>,
     resolved: &Resolved,
     dynamic: &[bool],
-    found: &[bool],
-    version_found: &[bool],
+    heads: &[bool],
 ) -> Result<(Vec<Clash>, Vec<Clash>), AllocError>
     requires listed { IsListed (seen db.old) }
-    requires found { found.now ≡ map is_listed (symbols_in (seen db.old).mapping.files.groups) }
-    requires version_found { version_found.now ≡ map is_version_listed (symbols_in (seen db.old).mapping.files.groups) }
+    requires heads { AreHeadsMarked (seen db.old).mapping heads.now }
     requires table { HasTable (seen db.old) }
     requires dynamic { dynamic.now ≡ map (λ x. is_shared x.origin) (symbols_in (seen db.old).mapping.files.groups) }
     requires known { length resolved.now.strengths ≡ length (symbols_in (seen db.old).mapping.files.groups) }
@@ -161,8 +157,7 @@ fn settle_table<P: Platform>(
         db,
         resolved,
         dynamic,
-        found,
-        version_found,
+        heads,
         table.as_mut_slice(),
     )?;
     db.restore_definitions(table);
@@ -174,13 +169,11 @@ fn narrow_names<P: Platform>(
     db: &SymbolDb<P>,
     visibilities: &[Visibility],
     dynamic: &[bool],
-    found: &[bool],
-    version_found: &[bool],
+    heads: &[bool],
     flags: &mut PerSymbolFlags,
 )
     requires listed { IsListed (seen db.now) }
-    requires found { found.now ≡ map is_listed (symbols_in (seen db.now).mapping.files.groups) }
-    requires version_found { version_found.now ≡ map is_version_listed (symbols_in (seen db.now).mapping.files.groups) }
+    requires heads { AreHeadsMarked (seen db.now).mapping heads.now }
     requires visibilities { visibilities.now ≡ map (λ x. visibility_in x.origin) (symbols_in (seen db.now).mapping.files.groups) }
     requires dynamic { dynamic.now ≡ map (λ x. is_shared x.origin) (symbols_in (seen db.now).mapping.files.groups) }
     requires flags { length (words_of flags.old) ≡ length dynamic.now }
@@ -189,9 +182,8 @@ fn narrow_names<P: Platform>(
         → numbers_of (words_of flags.new) ≡ each_from (narrowed_symbol w (numbers_of (words_of flags.old))) 0 w.symbols }
     ensures len { length (words_of flags.new) ≡ length (words_of flags.old) }
 {
-    narrow(&PlainLists { db, found }, visibilities, dynamic, flags);
-    let found = version_found;
-    narrow(&VersionedLists { db, found }, visibilities, dynamic, flags);
+    narrow(&PlainLists { db, heads }, visibilities, dynamic, flags);
+    narrow(&VersionedLists { db, heads }, visibilities, dynamic, flags);
 }
 
 /// Settles rivals in a database, and makes their symbols as visible as the strictest.
@@ -223,16 +215,14 @@ fn settle_rivals<P: Platform>(
     let RivalColumns {
         dynamic,
         visibilities,
-        listed: found,
-        version_listed: version_found,
     } = rival_columns(alloc, db.files())?;
+    let heads = db.heads_of_several(alloc)?;
     let (plain, versioned) = settle_table(
         alloc,
         db,
         resolved,
         dynamic.as_slice(),
-        found.as_slice(),
-        version_found.as_slice(),
+        heads.as_slice(),
     )?;
     match refuse_duplicates(alloc, db, plain.as_slice(), versioned.as_slice()) {
         Err(error) => Err(error),
@@ -241,8 +231,7 @@ fn settle_rivals<P: Platform>(
                 db,
                 visibilities.as_slice(),
                 dynamic.as_slice(),
-                found.as_slice(),
-                version_found.as_slice(),
+                heads.as_slice(),
                 flags,
             );
             db.release_alternatives();

@@ -1,6 +1,5 @@
-use Rattle.std.proofs.Common.{◌≡◌, ◌∙◌, ◌++◌, [], ◌∷◌, Ok, Err, ap, arith, length, not, subst, sym}
+use Rattle.std.proofs.Common.{◌≡◌, ◌∙◌, Ok, Err, arith, length, not}
 use Rattle.link_flags.specs.FlagWords.{numbers_of, words_of}
-use Rattle.link_groups.specs.Held.{AreGroupsOf}
 use Rattle.link_input.specs.InputFiles.{batch_of}
 use Rattle.link_loader.specs.Causes.{TellsCause}
 use Rattle.link_loader.specs.Holds.{platform_of}
@@ -10,22 +9,21 @@ use Rattle.link_rules.specs.World.{with_batch}
 use Rattle.link_rules.specs.Selection.{selection_of}
 use Rattle.link_rules.proofs.Existence.{orderly-loads}
 use Rattle.link_rules.proofs.Stages.{orderly-grows}
-use Rattle.link_db.specs.Database.{Database, symbol_names}
+use Rattle.link_db.specs.Database.{symbol_names}
 use Rattle.link_db.specs.Seen.{seen}
-use Rattle.link_resolve.specs.Known.{IsListed}
 use Rattle.link_resolve.specs.Resolving.{loading_cause}
 use Rattle.link_core.specs.Steps.{inputs_refusal}
 use Rattle.link_core.proofs.Batches.{links-inputs, links-loading}
-use Rattle.link_core.proofs.Passing.{below-more, ended-by, held-next, next-stage, refused-through, room-kept}
+use Rattle.link_core.proofs.Passing.{below-more, ended-by, held-next, next-stage, refused-through}
 use Rattle.link_core.proofs.batch.link_batch.Goals as goal
 
 -- what is known is of objects that are there
-pub resolve_symbols_and_select_archive_entries-requires-clause-loaded : goal.resolve_symbols_and_select_archive_entries-requires-clause-loaded
-resolve_symbols_and_select_archive_entries-requires-clause-loaded g c = λ _ _. let few = c.requires.loaded in let more = c.in_ok-add_files.ensures.objects in omega (arith, few, more)
+pub load_batch-requires-clause-loaded : goal.load_batch-requires-clause-loaded
+load_batch-requires-clause-loaded g c = λ _ _. let few = c.requires.loaded in let more = c.in_ok-add_files.ensures.objects in omega (arith, few, more)
 
 -- and its targets are symbols that are there
-pub resolve_symbols_and_select_archive_entries-requires-clause-targets : goal.resolve_symbols_and_select_archive_entries-requires-clause-targets
-resolve_symbols_and_select_archive_entries-requires-clause-targets g c = λ _ _. below-more (length (symbol_names (seen c.args.db.now))) (length (symbol_names (seen c.add_files.new.db))) c.args.resolver.now.known.targets c.in_ok-add_files.ensures.symbols c.requires.steady.targets
+pub load_batch-requires-clause-targets : goal.load_batch-requires-clause-targets
+load_batch-requires-clause-targets g c = λ _ _. below-more (length (symbol_names (seen c.args.db.now))) (length (symbol_names (seen c.add_files.new.db))) c.args.resolver.now.known.targets c.in_ok-add_files.ensures.symbols c.requires.steady.targets
 
 -- the files are the cause
 pub returns-in_err-add_files-clause-refused : goal.returns-in_err-add_files-clause-refused
@@ -37,20 +35,20 @@ returns-in_err-add_files-clause-refused g c =
     ended-by (Unit {0}) w (inputs_refusal (not (is_empty done)) before b) e (λ cause. is.ends (Err e) (links-inputs (not (is_empty done)) before b (λ l. ◌≡◌ {A = End} (Err e) (Ok l)) e cause)) told)
 
 -- what loading tells is the cause
-pub returns-in_err-resolve_symbols_and_select_archive_entries-clause-refused : goal.returns-in_err-resolve_symbols_and_select_archive_entries-clause-refused
-returns-in_err-resolve_symbols_and_select_archive_entries-clause-refused g c =
-    let e = c.in_err-resolve_symbols_and_select_archive_entries.field-0.0 in
+pub returns-in_err-load_batch-clause-refused : goal.returns-in_err-load_batch-clause-refused
+returns-in_err-load_batch-clause-refused g c =
+    let e = c.in_err-load_batch.field-0.0 in
     let b = batch_of c.args.inputs in
     let platform = platform_of g.P.Platform in
     let demangle = g.D.Demangler.demangled c.args.demangler.now in
-    refused-through c.from_residual-in_err-resolve_symbols_and_select_archive_entries.result _ e c.from_residual-in_err-resolve_symbols_and_select_archive_entries.ensures.1 (λ w done before is ready.
+    refused-through c.from_residual-in_err-load_batch.result _ e c.from_residual-in_err-load_batch.ensures.1 (λ w done before is ready.
     let s = with_batch before b in
     let loaded = orderly-loads s (orderly-grows before b is.orderly) in
     let added = c.in_ok-add_files.ensures.added w done before c.args.resolver.now.known is ready in
     let none = c.in_ok-add_files.ensures.cause w done before c.args.resolver.now.known is ready in
     let next = next-stage platform demangle w done b before (seen c.args.db.now) (seen c.add_files.new.db) (numbers_of (words_of c.args.flags.now)) (numbers_of (words_of c.add_files.new.flags))
     c.args.resolver.now.known is ready added in
-    let told : TellsCause {A = Unit {0}} (loading_cause s loaded.0) (Err e) = c.in_err-resolve_symbols_and_select_archive_entries.ensures.cause demangle s next loaded.0 loaded.1 in
+    let told : TellsCause {A = Unit {0}} (loading_cause s loaded.0) (Err e) = c.in_err-load_batch.ensures.cause demangle s next loaded.0 loaded.1 in
     ended-by (Unit {0}) w (loading_cause s loaded.0) e (λ cause. is.ends (Err e) (links-loading (not (is_empty done)) before b (λ l. ◌≡◌ {A = End} (Err e) (Ok l)) loaded.0 e none loaded.1 cause)) told)
 
 -- all batches are held
@@ -65,36 +63,26 @@ returns-clause-loaded g c = λ w done before is ready.
     let added = c.in_ok-add_files.ensures.added w done before c.args.resolver.now.known is ready in
     let none = c.in_ok-add_files.ensures.cause w done before c.args.resolver.now.known is ready in
     let next = next-stage platform demangle w done b before (seen c.args.db.now) (seen c.add_files.new.db) (numbers_of (words_of c.args.flags.now)) read c.args.resolver.now.known is ready added in
-    let e = c.in_ok-resolve_symbols_and_select_archive_entries.ensures in (
+    let e = c.in_ok-load_batch.ensures in (
       selection_of s loaded.0,
-      held-next platform demangle w done b before (seen c.add_files.new.db) (seen c.resolve_symbols_and_select_archive_entries.new.db) read
-          (numbers_of (words_of c.resolve_symbols_and_select_archive_entries.new.flags)) c.resolve_symbols_and_select_archive_entries.new.self loaded.0 is added none loaded.1
+      held-next platform demangle w done b before (seen c.add_files.new.db) read (numbers_of (words_of c.load_batch.new.flags)) c.load_batch.new.self loaded.0 is added none loaded.1
           (e.cause demangle s next loaded.0 loaded.1) (e.selection demangle s next loaded.0 loaded.1) (e.groups demangle s next loaded.0 loaded.1)
-          (e.table demangle s next loaded.0 loaded.1) (e.flags demangle s next loaded.0 loaded.1 added.flags) e.rest,
+          (e.flags demangle s next loaded.0 loaded.1 added.flags),
     )
 
 -- another batch may come
 pub returns-clause-steady : goal.returns-clause-steady
 returns-clause-steady g c =
-    let e = c.in_ok-resolve_symbols_and_select_archive_entries.ensures in
-    let names = ap (λ (d : Database g.row.P.Denot). length (symbol_names d)) e.rest in
+    let e = c.in_ok-load_batch.ensures in
     record {
-      table = e.whole;
-      flags = e.words ∙ (c.in_ok-add_files.ensures.room.flags ∙ sym names);
-      listed = subst (λ (d : Database g.row.P.Denot). IsListed d) (sym e.rest) (let l = c.in_ok-add_files.ensures.listed in record { lists = record { plain = l.lists.plain; versioned = l.lists.versioned }; added = l.added });
+      table = c.in_ok-add_files.ensures.room.table;
+      flags = e.words ∙ c.in_ok-add_files.ensures.room.flags;
+      listed = let l = c.in_ok-add_files.ensures.listed in record { lists = record { plain = l.lists.plain; versioned = l.lists.versioned }; added = l.added };
       targets = e.targets;
     }
 
 -- there is room for the rest
 pub returns-clause-room : goal.returns-clause-room
 returns-clause-room g c =
-    let e = c.in_ok-resolve_symbols_and_select_archive_entries.ensures in
-    room-kept (seen c.add_files.new.db) (seen c.resolve_symbols_and_select_archive_entries.new.db) (words_of c.add_files.new.flags)
-    (words_of c.resolve_symbols_and_select_archive_entries.new.flags) (ap (λ (d : Database g.row.P.Denot). d.mapping.files) e.rest) (ap (λ (d : Database g.row.P.Denot). d.options) e.rest) e.whole e.words
-    c.in_ok-add_files.ensures.room
-
--- the groups are those of one batch more
-pub returns-clause-groups : goal.returns-clause-groups
-returns-clause-groups g c = λ batches are.
-    subst (λ (d : Database g.row.P.Denot). AreGroupsOf d.options (batches ++ batch_of c.args.inputs ∷ []) d.mapping.files.groups)
-    (sym c.in_ok-resolve_symbols_and_select_archive_entries.ensures.rest) (c.in_ok-add_files.ensures.groups batches are)
+    let room = c.in_ok-add_files.ensures.room in
+    record { table = room.table; flags = c.in_ok-load_batch.ensures.words ∙ room.flags; groups = room.groups; fits = room.fits }

@@ -54,7 +54,7 @@ loop-inputs-preserved g c =
           ∙ (ap (λ (xs : List (Inputs g.row.P.Denot)). inv.0 ++ map batch_of xs) (sym c.in-Some.ensures.steps.0) ∙ inv.1),
       open-next (platform_of g.P.Platform) (g.D.Demangler.demangled c.args.demangler.now) c.args.options c.args.scripts inv.0 b (seen link.db) (seen c.link_batch.new.db)
           (words_of link.flags) (words_of c.link_batch.new.flags) link.resolver c.link_batch.new.resolver inv.2
-          c.in_ok-link_batch.ensures.room c.in_ok-link_batch.ensures.strengths c.in_ok-link_batch.ensures.loaded,
+          c.in_ok-link_batch.ensures.room c.in_ok-link_batch.ensures.loaded,
       c.in_ok-link_batch.ensures.steady,
     )
 

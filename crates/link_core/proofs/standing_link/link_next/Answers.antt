@@ -34,7 +34,7 @@ returns-clause-standing g c =
     let one = c.in_ok-note_size.ensures ∙ ap (λ (n : BatchSize). standing.sizes.items ++ n ∷ []) c.of-size.ensures in
     (stands-next (platform_of g.P.Platform) (g.D.Demangler.demangled c.args.demangler.now) standing.texts standing.sizes.items c.note_size.new.sizes.items (batch_of c.args.inputs)
     (seen standing.link.db) new (words_of standing.link.flags) (words_of c.link_batch.new.flags) standing.link.resolver c.link_batch.new.resolver one c.requires.standing
-    e.room e.strengths e.steady e.groups e.loaded).standing
+    e.room e.steady e.groups e.loaded).standing
 
 pub returns-clause-batches : goal.returns-clause-batches
 returns-clause-batches g c =
@@ -44,7 +44,7 @@ returns-clause-batches g c =
     let one = c.in_ok-note_size.ensures ∙ ap (λ (n : BatchSize). standing.sizes.items ++ n ∷ []) c.of-size.ensures in
     (stands-next (platform_of g.P.Platform) (g.D.Demangler.demangled c.args.demangler.now) standing.texts standing.sizes.items c.note_size.new.sizes.items (batch_of c.args.inputs)
     (seen standing.link.db) new (words_of standing.link.flags) (words_of c.link_batch.new.flags) standing.link.resolver c.link_batch.new.resolver one c.requires.standing
-    e.room e.strengths e.steady e.groups e.loaded).batches
+    e.room e.steady e.groups e.loaded).batches
 
 pub returns-clause-options : goal.returns-clause-options
 returns-clause-options g c =
@@ -54,4 +54,4 @@ returns-clause-options g c =
     let one = c.in_ok-note_size.ensures ∙ ap (λ (n : BatchSize). standing.sizes.items ++ n ∷ []) c.of-size.ensures in
     (stands-next (platform_of g.P.Platform) (g.D.Demangler.demangled c.args.demangler.now) standing.texts standing.sizes.items c.note_size.new.sizes.items (batch_of c.args.inputs)
     (seen standing.link.db) new (words_of standing.link.flags) (words_of c.link_batch.new.flags) standing.link.resolver c.link_batch.new.resolver one c.requires.standing
-    e.room e.strengths e.steady e.groups e.loaded).options
+    e.room e.steady e.groups e.loaded).options

@@ -1,7 +1,6 @@
 use Rattle.std.proofs.Common.{◌≡◌, ◌++◌, map}
 use Rattle.link_files.specs.GroupFiles.{symbols_in}
 use Rattle.link_input.specs.Symbols.{Symbol, is_shared, visibility_in}
-use Rattle.link_rules.specs.Names.{is_listed, is_version_listed}
 use Rattle.link_marking.proofs.columns.rival_columns.Given as goal
 
 -- each column so far, and what is left
@@ -11,5 +10,3 @@ invariant-loop-symbol g l =
     let all = symbols_in l.files.groups in
     (l.columns.dynamic.items ++ map (λ (x : Symbol). is_shared x.origin) left ≡ map (λ (x : Symbol). is_shared x.origin) all)
     × (l.columns.visibilities.items ++ map (λ (x : Symbol). visibility_in x.origin) left ≡ map (λ (x : Symbol). visibility_in x.origin) all)
-    × (l.columns.listed.items ++ map is_listed left ≡ map is_listed all)
-    × (l.columns.version_listed.items ++ map is_version_listed left ≡ map is_version_listed all)

@@ -13,8 +13,8 @@ pub returns-in-Err-clause-cause : goal.returns-in-Err-clause-cause
 returns-in-Err-clause-cause g c = λ demangle l is before.
     let symbols = is.stage.symbols ∙ ap (λ (d : Database g.row.P.Denot). symbols_in d.mapping.files.groups) (sym c.in_ok-plain.ensures.rest) in
     let objects = is.stage.objects ∙ ap (λ (d : Database g.row.P.Denot). objects_in d.mapping.files.groups) (sym c.in_ok-plain.ensures.rest) in
-    let plain = ap (map (clash_line l.stage)) c.as_slice-4.ensures.value ∙ c.in_ok-plain.ensures.plain demangle l is before in
-    let versioned = ap (map (clash_line l.stage)) c.as_slice-5.ensures.value ∙ c.in_ok-plain.ensures.versioned demangle l is before in
+    let plain = ap (map (clash_line l.stage)) c.as_slice-3.ensures.value ∙ c.in_ok-plain.ensures.plain demangle l is before in
+    let versioned = ap (map (clash_line l.stage)) c.as_slice-4.ensures.value ∙ c.in_ok-plain.ensures.versioned demangle l is before in
     let told : TellsCause (unless_none (duplicate_lines l)) c.refuse_duplicates.result =
     subst (λ lines. TellsCause (unless_none lines) c.refuse_duplicates.result) (lines-are l _ _ plain versioned) (c.refuse_duplicates.ensures l.stage symbols objects) in
     subst (λ r. TellsCause (unless_none (duplicate_lines l)) r) c.in-Err.is told
@@ -23,8 +23,8 @@ pub returns-clause-cause : goal.returns-clause-cause
 returns-clause-cause g c = λ demangle l is before.
     let symbols = is.stage.symbols ∙ ap (λ (d : Database g.row.P.Denot). symbols_in d.mapping.files.groups) (sym c.in_ok-plain.ensures.rest) in
     let objects = is.stage.objects ∙ ap (λ (d : Database g.row.P.Denot). objects_in d.mapping.files.groups) (sym c.in_ok-plain.ensures.rest) in
-    let plain = ap (map (clash_line l.stage)) c.as_slice-4.ensures.value ∙ c.in_ok-plain.ensures.plain demangle l is before in
-    let versioned = ap (map (clash_line l.stage)) c.as_slice-5.ensures.value ∙ c.in_ok-plain.ensures.versioned demangle l is before in
+    let plain = ap (map (clash_line l.stage)) c.as_slice-3.ensures.value ∙ c.in_ok-plain.ensures.plain demangle l is before in
+    let versioned = ap (map (clash_line l.stage)) c.as_slice-4.ensures.value ∙ c.in_ok-plain.ensures.versioned demangle l is before in
     let told : TellsCause (unless_none (duplicate_lines l)) c.refuse_duplicates.result =
     subst (λ lines. TellsCause (unless_none lines) c.refuse_duplicates.result) (lines-are l _ _ plain versioned) (c.refuse_duplicates.ensures l.stage symbols objects) in
     subst (λ r. TellsCause (unless_none (duplicate_lines l)) r) c.in-Ok.is told

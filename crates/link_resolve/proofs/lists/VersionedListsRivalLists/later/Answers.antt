@@ -1,13 +1,13 @@
-use Rattle.std.proofs.Common.{◌∙◌}
-use Rattle.link_files.specs.GroupFiles.{symbols_in}
+use Rattle.std.proofs.Common.{◌∙◌, sym}
 use Rattle.link_loader.specs.Holds.{platform_of}
 use Rattle.link_db.specs.Seen.{seen}
-use Rattle.link_resolve.proofs.Behind.{versioned-later, versioned-none}
+use Rattle.link_resolve.proofs.Behind.{versioned-later}
 use Rattle.link_resolve.proofs.lists.VersionedListsRivalLists.later.Goals as goal
 
-pub returns-then-not-is_found : goal.returns-then-not-is_found
-returns-then-not-is_found g c =
-    versioned-none (symbols_in (seen c.args.self.now.db.now).mapping.files.groups) c.args.self.now.found.now c.args.id c.is_found.result c.args.self.now.column c.is_found.ensures c.if-not-is_found.true
+pub returns-then-not-is_head : goal.returns-then-not-is_head
+returns-then-not-is_head g c =
+    let lists = c.args.self.now in
+    sym (lists.marked.versioned c.args.id (sym c.is_head.ensures ∙ c.if-not-is_head.true)) ∙ versioned-later (platform_of g.P.Platform) (seen lists.db.now) lists.listed c.args.id
 
 pub returns : goal.returns
 returns g c =

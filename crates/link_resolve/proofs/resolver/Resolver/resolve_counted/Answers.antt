@@ -16,7 +16,7 @@ use Rattle.link_db.proofs.Causes.{neither, tells-other, tells-through}
 use Rattle.link_db.specs.Database.{Database}
 use Rattle.link_db.specs.Seen.{seen}
 use Rattle.link_resolve.specs.Known.{Known}
-use Rattle.link_resolve.proofs.Loaded.{all-named, is-selection, not-empty, opened}
+use Rattle.link_resolve.proofs.Loaded.{all-named, is-selection, loaded-of, not-empty, opened}
 use Rattle.link_resolve.proofs.resolver.Resolver.resolve_counted.Goals as goal
 
 -- the groups of a loaded object
@@ -52,7 +52,7 @@ returns-clause-table g c = λ demangle w at marks loaded.
     let is = opened c.self.view_is at in
     let selection = is-selection (platform_of g.P.Platform) demangle (seen c.args.db.now) (seen c.args.db.now) w marks _ (λ i. (seen c.args.db.now).mapping) (λ i. (seen c.args.db.now).options) (λ i. (seen c.args.db.now).rules) is.stage
     (c.in_ok-resolved.ensures.known demangle w is marks loaded) in
-    ap (λ (d : Database g.row.P.Denot). d.table) c.restore_definitions.ensures ∙ c.in_ok-table.ensures.table demangle (selection_of w marks) selection
+    ap (λ (d : Database g.row.P.Denot). d.table) c.restore_definitions.ensures ∙ c.in_ok-table.ensures.table demangle (selection_of w marks) (loaded-of _ demangle (seen c.args.db.now) _ (selection_of w marks) selection)
 
 -- the flags are the words' own
 pub returns-clause-flags : goal.returns-clause-flags
