@@ -3,15 +3,17 @@
 
     tools/hostile.py PROGRAM [--megabytes M] [--seconds S] [--bytes B] [--nanoseconds N] [PART..]
 
-PART is `shapes`, `products`, `longest` or `limits` (all of them if none is given):
+PART is `shapes`, `products`, `longest`, `stack` or `limits` (all of them if none is given):
 
 - shapes: manifests of M megabytes (10 if not given), each of one thing again and again: values that say nothing in few
   bytes, texts, numbers, and links of many equal names, objects, sections, groups and options.
 - products: what takes the time of a product: names of one chain with each other, patterns that begin and end with a star with
   names, a long pattern with a long name.
 - longest: texts of the greatest length that is read, and a byte more.
-- limits: links under a limit of the address space, from what the program needs to read the deepest nesting (so that its
-  stack, which no call can refuse, has room) to what the link needs: each ends with status 6 and nothing written, or with the bytes that are due.
+- stack: links and refusals with one worker and a stack that can't grow past the 128 KiB which each process has from the
+  start, and the least stack that they need.
+- limits: links under a limit of the address space, from what the program needs to say that it wants words to what the link
+  needs: each ends with status 6 and nothing written, or with the bytes that are due.
 
 Prints a line for each: how it ended, processor seconds, and the most memory that it held, in bytes for a byte of text. A run
 that ends by a signal, otherwise than is due, after more than S seconds (10 if not given) for 10 megabytes, with more than B
@@ -28,9 +30,11 @@ import tempfile
 import run_rows
 from measured import Text, numbered, repeated, run
 
-PARTS = ("shapes", "products", "longest", "limits")
+PARTS = ("shapes", "products", "longest", "stack", "limits")
 # The texts that are read under limits of memory.
 LIMITED = ("objects in objects", "objects in a list", "names", "weak definitions of a name", "objects that clash", "exported patterns")
+# What the system gives a stack before it has to grow, in bytes.
+STACK = 128 << 10
 # What a process of Python and the program hold without any text, in bytes.
 AT_FIRST = 24 << 20
 
@@ -207,6 +211,25 @@ def least(enough, low, high, step):
     return high
 
 
+def run_stack(program, size):
+    """Runs the worked examples and the commands with one worker, and links of so many bytes, with no more stack than a process has at first. Answers
+    lines for what ended otherwise than is due."""
+    wrong, folder, most = [], pathlib.Path(__file__).parent, (0, "")
+    rows = [row for row in (*run_rows.worked_examples(folder), *run_rows.commands(folder)) if row[1] == "link 1"]
+    texts = [(name, iter([stdin.encode()])) for name, _, stdin, *_ in rows] + [(name, pieces) for name, pieces, _ in shapes(size)]
+    for name, pieces in texts:
+        with tempfile.TemporaryDirectory() as folder:
+            text = Text(folder, pieces)
+            due, done = (run(program, "link 1", text, stack=stack) for stack in (None, STACK))
+            if (done.status, done.text, done.written) != (due.status, due.text, due.written):
+                wrong.append(f"{name}: status {done.status}, {done.written} bytes: {done.text[:80]!r}")
+            ends = lambda stack: run(program, "link 1", text, stack=stack).status == due.status
+            if not ends(most[0]):
+                most = least(ends, most[0], 1 << 20, 1024), name
+    print(f"{len(texts)} texts, the most stack is {most[0] >> 10} KiB: {most[1]}", flush=True)
+    return wrong
+
+
 def run_limits(program, size):
     """Runs links of up to so many bytes under limits of the address space. Answers lines for what ended otherwise than is due."""
     wrong, folder = [], pathlib.Path(__file__).parent
@@ -214,8 +237,8 @@ def run_limits(program, size):
     small = [(name, iter([rows[name].encode()])) for name in ("every_key", "custom_sections_repeated", "nesting_of_127")]
     texts = small + [(name, pieces) for name, pieces, _ in shapes(size) if name in LIMITED]
     with tempfile.TemporaryDirectory() as folder:
-        deepest = Text(folder, iter([rows["nesting_of_127"].encode()]))
-        low = least(lambda limit: run(program, "link 1", deepest, limit).status == 3, 0, 1 << 28, 4096)
+        nothing = Text(folder, iter([b"{}"]))
+        low = least(lambda limit: run(program, "", nothing, limit).status == 2, 0, 1 << 28, 4096)
     print(f"{'text':>30} {'words':>9} {'MB':>7} {'from':>8} {'to MB':>8} {'runs':>5} {'status 6':>8}", flush=True)
     for name, pieces in texts:
         with tempfile.TemporaryDirectory() as folder:
@@ -251,6 +274,8 @@ def main():
         wrong += run_products(program, given.nanoseconds)
     if "longest" in given.parts:
         wrong += run_texts(program, longest(), given.seconds, given.bytes)
+    if "stack" in given.parts:
+        wrong += run_stack(program, size // 10)
     if "limits" in given.parts:
         wrong += run_limits(program, size // 100)
     for line in wrong:

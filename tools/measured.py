@@ -47,9 +47,9 @@ class Text:
             self.path, self.size = file.name, file.tell()
 
 
-def run(program, words, text, limit=None, seconds=60, keep=1 << 16):
+def run(program, words, text, limit=None, seconds=60, keep=1 << 16, stack=None):
     """Runs the program on a text, for so many processor seconds at most (it ends by SIGXCPU then), with a limit of its address
-    space in bytes where one is given; keeps so many bytes of what it writes."""
+    space in bytes where one is given, and one of its stack, which counts the environment too: it is empty then. Keeps so many bytes of what it writes."""
     with tempfile.TemporaryFile() as sink:
         child = os.fork()
         if child == 0:
@@ -60,7 +60,9 @@ def run(program, words, text, limit=None, seconds=60, keep=1 << 16):
                 resource.setrlimit(resource.RLIMIT_CPU, (seconds, seconds + 1))
                 if limit is not None:
                     resource.setrlimit(resource.RLIMIT_AS, (limit, limit))
-                os.execv(program, [program, *words.split()])
+                if stack is not None:
+                    resource.setrlimit(resource.RLIMIT_STACK, (stack, stack))
+                os.execve(program, [program, *words.split()], os.environ if stack is None else {})
             finally:
                 os._exit(125)
         _, status, usage = os.wait4(child, 0)

@@ -1,19 +1,18 @@
 #!/usr/bin/env python3
 """Runs a built program on generated commands beside an independent program, for a time, in slices that end by themselves.
 
-    tools/soak.py PROGRAM --cases 'COMMAND' [--seconds S] [--from SEED] [--slice N] [--jobs J]
+    tools/soak.py PROGRAM --cases 'COMMAND' [--seconds S] [--from SEED] [--seeds N] [--slice N] [--jobs J]
 
 COMMAND FOLDER N SEED (the last three words are put behind it) writes the cases of N seeds from SEED on into a folder: for
 each one SEED.json, standard input; SEED.words, the words; SEED.status and SEED.out, the status and the bytes that are due, by
 a program that shares no code with the one that is tried. A slice is N of them (200 if not given). J slices (one a processor)
-run side by side, and for S seconds (60 if not given) new ones begin. Each case runs with its own words, and where these are
-`link W` with another number of workers too. Prints a line for each slice with its seeds, and at the end where to go on. A
-case whose status or bytes differ, that ends by a signal, or that takes more than a processor second, is told and left in
-soak_differs/; then the status is 1.
+run side by side, and for S seconds (60 if not given) new ones begin, until N seeds are done. Each case runs with its own
+words, and where these are `link W` with another number of workers too. Prints a line for each slice with its seeds, and at
+the end where to go on. A case whose status or bytes differ, that ends by a signal, or that takes more than a processor
+second, is told and left in soak_differs/; then the status is 1. It is fastest where TMPDIR is in memory.
 """
 import argparse
 import concurrent.futures
-import itertools
 import os
 import pathlib
 import resource
@@ -36,23 +35,26 @@ def all_words(seed, words):
         yield f"link {WORKERS[seed % len(WORKERS)]}"
 
 
-def ran(program, words, stdin):
-    limit = lambda: resource.setrlimit(resource.RLIMIT_CPU, (SECONDS, SECONDS))
-    done = subprocess.run([program, *words.split()], input=stdin, capture_output=True, preexec_fn=limit)
-    return done.returncode, done.stdout
+def ran(program, words, stdin, stdout):
+    """Runs the program from one file to another, and answers its status and what it wrote."""
+    files = (os.POSIX_SPAWN_OPEN, 0, stdin, os.O_RDONLY, 0), (os.POSIX_SPAWN_OPEN, 1, stdout, os.O_WRONLY | os.O_CREAT | os.O_TRUNC, 0o600)
+    child = os.posix_spawn(program, [program, *words.split()], os.environ, file_actions=files)
+    # It may have ended, but is there until it is waited for.
+    resource.prlimit(child, resource.RLIMIT_CPU, (SECONDS, SECONDS))
+    status = os.waitstatus_to_exitcode(os.waitpid(child, 0)[1])
+    return status, stdout.read_bytes()
 
 
 def tried(program, cases, count, seed):
-    """Runs a slice. Answers how many runs it was, how often each status came, and lines for what differs."""
+    """Runs a slice. Answers which seeds and how many runs it was, how often each status came, and lines for what differs."""
     runs, statuses, differ = 0, {}, []
     with tempfile.TemporaryDirectory() as name:
         folder = pathlib.Path(name)
         subprocess.run([*cases, folder, str(count), str(seed)], check=True, stdout=subprocess.DEVNULL)
         for case in range(seed, seed + count):
-            stdin, out = ((folder / f"{case}.{end}").read_bytes() for end in ("json", "out"))
-            due = int((folder / f"{case}.status").read_text()), out
+            due = int((folder / f"{case}.status").read_text()), (folder / f"{case}.out").read_bytes()
             for words in all_words(case, (folder / f"{case}.words").read_text()):
-                got = ran(program, words, stdin)
+                got = ran(program, words, folder / f"{case}.json", folder / "got")
                 runs += 1
                 statuses[got[0]] = statuses.get(got[0], 0) + 1
                 if got != due:
@@ -61,7 +63,7 @@ def tried(program, cases, count, seed):
                     kept.mkdir(exist_ok=True)
                     for end in ("json", "words", "out", "status"):
                         shutil.copy(folder / f"{case}.{end}", kept)
-    return seed, runs, statuses, differ
+    return seed, count, runs, statuses, differ
 
 
 def main():
@@ -70,26 +72,31 @@ def main():
     reader.add_argument("--cases", required=True, type=shlex.split)
     reader.add_argument("--seconds", type=float, default=60)
     reader.add_argument("--from", type=int, default=0, dest="first")
+    reader.add_argument("--seeds", type=int, default=sys.maxsize)
     reader.add_argument("--slice", type=int, default=200)
     reader.add_argument("--jobs", type=int, default=os.cpu_count())
     given = reader.parse_args()
     program, end = os.path.abspath(given.program), time.monotonic() + given.seconds
-    seeds = itertools.count(given.first, given.slice)
+    seed, behind = given.first, given.first + given.seeds
     all_runs, all_statuses, differ, running = 0, {}, 0, set()
-    with concurrent.futures.ThreadPoolExecutor(given.jobs) as pool:
-        while running or time.monotonic() < end:
-            while len(running) < given.jobs and time.monotonic() < end:
-                running.add(pool.submit(tried, program, given.cases, given.slice, next(seeds)))
+    with concurrent.futures.ProcessPoolExecutor(given.jobs) as pool:
+        while True:
+            while len(running) < given.jobs and seed < behind and time.monotonic() < end:
+                count = min(given.slice, behind - seed)
+                running.add(pool.submit(tried, program, given.cases, count, seed))
+                seed += count
+            if not running:
+                break
             done, running = concurrent.futures.wait(running, return_when=concurrent.futures.FIRST_COMPLETED)
-            for seed, runs, statuses, lines in (one.result() for one in done):
-                print(f"seeds {seed} to {seed + given.slice - 1}: {runs} runs, {len(lines)} differ", flush=True)
+            for first, count, runs, statuses, lines in (one.result() for one in done):
+                print(f"seeds {first} to {first + count - 1}: {runs} runs, {len(lines)} differ", flush=True)
                 for line in lines:
                     print(line, file=sys.stderr)
                 all_runs, differ = all_runs + runs, differ + len(lines)
                 for status, count in statuses.items():
                     all_statuses[status] = all_statuses.get(status, 0) + count
     by_status = ", ".join(f"{count} with status {status}" for status, count in sorted(all_statuses.items()))
-    print(f"{all_runs} runs ({by_status}), {differ} differ; go on with --from {next(seeds)}")
+    print(f"{all_runs} runs ({by_status}), {differ} differ; go on with --from {seed}")
     sys.exit(1 if differ else 0)
 
 

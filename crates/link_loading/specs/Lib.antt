@@ -1,4 +1,3 @@
-pub mod Sources
 pub mod Requests
 pub mod Objects
 pub mod Names

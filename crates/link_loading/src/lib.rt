@@ -5,12 +5,10 @@ mod names;
 mod objects;
 mod requests;
 mod roots;
-mod sources;
 mod targets;
 
 pub use names::{referred_names, root_names};
 pub use objects::objects_of;
 pub use requests::request_by;
 pub use roots::root_objects;
-pub use sources::{SymbolSource, symbol_sources};
 pub use targets::looked_up;

@@ -3,9 +3,8 @@
 ghost use Rattle.std.specs.Prelude.{◌≡◌};
 ghost use Rattle.link_loading.specs.Requests.{request_by, requested};
 
-use crate::sources::{SymbolSource, source_of};
 use link_ids::SymbolId;
-use link_symbols::SymbolView;
+use link_symbols::{SymbolSource, SymbolView, source_of};
 
 /// The object at which a target stands, if it is another one, and not both files are shared.
 fn requested(from: SymbolSource, to: SymbolSource) -> Option<usize>

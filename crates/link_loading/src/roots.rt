@@ -7,7 +7,7 @@ ghost use Rattle.link_closure.specs.Closure.{is_marked};
 ghost use Rattle.link_files.specs.GroupFiles.{symbols_in};
 ghost use Rattle.link_files.specs.Inputs.{objects_in};
 ghost use Rattle.link_loader.specs.Holds.{platform_of};
-ghost use Rattle.link_loading.specs.Sources.{sources_of};
+ghost use Rattle.link_symbols.specs.Sources.{sources_of};
 ghost use Rattle.link_rules.specs.Loading.{holds_name, is_root};
 ghost use Rattle.link_rules.specs.Names.{first_definition};
 ghost use Rattle.link_rules.specs.Places.{Bytes, is_number};
@@ -17,11 +17,11 @@ ghost use Rattle.link_stage.specs.AtStage.{IsAtStage};
 
 use crate::names::root_names;
 use crate::objects::object_marks;
-use crate::sources::SymbolSource;
 use link_db::SymbolDb;
 use link_ids::SymbolId;
 use link_input::Platform;
 use link_names::NameView;
+use link_symbols::SymbolSource;
 use std::alloc::{AllocError, Global};
 
 /// The object that holds the symbol of this id.

@@ -31,10 +31,12 @@ fn jobs_of<P: Readable>(
     ensures ready { IfOk result (λ v. All (IsReady (P.work plan.now) words.now) v.items) }
 {
     let mut jobs = Vec::new(alloc);
+    let share = plan.items() / all.len().max(1);
     while let Some(hints) = all.pop() {
         jobs.push(Job {
             seat: seat.split(words),
             hints,
+            share,
         })?;
     }
     Ok(jobs)
@@ -128,7 +130,7 @@ fn none_found<T: Drop>(alloc: Global, count: usize) -> Result<Vec<Option<T>>, Al
     ensures count { IfOk result (λ v. length v.items ≡ count) }
     ensures found { IfOk result (λ v. All (λ o. o ≡ None) v.items) }
 {
-    let mut results = Vec::new(alloc);
+    let mut results = Vec::with_capacity(alloc, count)?;
     for _ in 0..count {
         results.push(None)?;
     }

@@ -19,6 +19,8 @@ const IDLE_TURNS: u32 = 64;
 pub(crate) struct Job {
     pub(crate) seat: WorkSeat,
     pub(crate) hints: Hints,
+    /// How many items it begins room for: its share of all.
+    pub(crate) share: usize,
 }
 
 /// What was found in an item.
@@ -130,8 +132,9 @@ pub(crate) fn work<P: Readable, G: Gate>(
     let Job {
         mut seat,
         mut hints,
+        share,
     } = job;
-    let mut findings = Vec::new(alloc);
+    let mut findings = Vec::with_capacity(alloc, share)?;
     let items = plan.items();
     let mut idle = 0u32;
     let mut taken = 0usize;

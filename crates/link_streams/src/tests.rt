@@ -36,8 +36,8 @@ fn all_of_a_source_is_read(rt: HostRuntime) -> Result<(), Fail> {
     let long = numbered(alloc, 1_000_000)?;
     let mut source = MemorySource::new(long.clone()?, 100_000, Vec::new(alloc));
     assert!(rt; read_all(alloc, &mut source, 1_000_000) == Ok(long));
-    // Each call asks for 64 KiB, or for what is left and a byte: 16 calls, and one at the end.
-    assert_eq!(rt; source.calls(), 17);
+    // Each call asks for 16 KiB, or for what is left and a byte: 62 calls, and one at the end.
+    assert_eq!(rt; source.calls(), 63);
     Ok(())
 }
 

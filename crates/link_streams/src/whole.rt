@@ -7,8 +7,9 @@ ghost use Rattle.link_streams.specs.Streams.{Gives, GivesPart, GivesAtMost, Give
 use crate::stream::{Failed, Sink, Source};
 use std::alloc::{AllocError, Global};
 
-/// The most bytes that are asked for at a time.
-const PIECE: usize = 64 * 1024;
+/// The most bytes that are asked for at a time. They lie on the stack, which the system lets grow past 128 KiB only where there is memory, and ends
+/// the program otherwise: with so few the whole program stays below that.
+const PIECE: usize = 16 * 1024;
 
 /// Why a source wasn't read to its end.
 #[derive(Clone, Copy, Debug, PartialEq, Eq, thiserror::Error)]

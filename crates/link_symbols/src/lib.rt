@@ -5,6 +5,7 @@ mod all_symbols;
 mod file_list;
 mod file_symbols;
 mod objects;
+mod sources;
 mod strengths;
 mod table;
 mod targets;
@@ -12,6 +13,7 @@ mod view;
 
 pub use all_symbols::{AllSymbols, symbols};
 pub use objects::{ObjectSymbols, PartSymbols, object_symbols};
+pub use sources::{SymbolSource, source_of, symbol_sources};
 pub use strengths::{DiscardedSections, surviving_strengths};
 pub use table::{FirstDefinitions, reference_table};
 pub use targets::target_of;

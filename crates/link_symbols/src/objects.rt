@@ -28,10 +28,12 @@ pub struct ObjectSymbols<'a, P: Platform> {
     place: usize,
     /// The id of its first symbol.
     first: usize,
+    /// How many symbols it has, so that whoever asks for no more leaves the object alone.
+    count: usize,
 }
 
 impl<'a, P: Platform> Model for ObjectSymbols<'a, P> {
-    ghost use Rattle.std.specs.Prelude.{◌+◌, ◌≤◌, ◌^◌, length};
+    ghost use Rattle.std.specs.Prelude.{◌≡◌, ◌+◌, ◌≤◌, ◌^◌, length};
     ghost use Rattle.link_input.specs.InputFiles.{object};
     ghost use Rattle.link_input.specs.Symbols.{file_symbols};
     ghost use Rattle.link_symbols.specs.Walk.{SymbolsLeft};
@@ -40,7 +42,7 @@ impl<'a, P: Platform> Model for ObjectSymbols<'a, P> {
 
     ghost view = { λ o. record { next = o.first; left = file_symbols o.place (object o.parsed.now) } };
 
-    ghost invariant = { λ o. o.first + length (file_symbols o.place (object o.parsed.now)) ≤ 2 ^ 32 };
+    ghost invariant = { λ o. (o.first + o.count ≤ 2 ^ 32) × (o.count ≡ length (file_symbols o.place (object o.parsed.now))) };
 }
 
 impl<'a, P: Platform> ObjectSymbols<'a, P> {
@@ -48,7 +50,7 @@ impl<'a, P: Platform> ObjectSymbols<'a, P> {
     pub fn num_symbols(&self) -> usize
         ensures { result ≡ length self.now.left }
     {
-        self.parsed.num_symbols()
+        self.count
     }
 
     /// Those of its symbols that stand from one place of its table on, before another one.
@@ -126,6 +128,7 @@ fn push_object<'a, P: Platform>(
             parsed: &object.parsed,
             place,
             first,
+            count: object.parsed.num_symbols(),
         })?;
     }
     Ok(())
@@ -143,7 +146,7 @@ pub fn object_symbols<P: Platform>(
 {
     // So ids name all of them.
     prove!(files.num_symbols() < 1 << 32);
-    let mut objects = Vec::new(alloc);
+    let mut objects = Vec::with_capacity(alloc, files.num_objects())?;
     let mut first = 0;
     for file in FileList::new(files.groups()) {
         push_object(&mut objects, &file, first)?;

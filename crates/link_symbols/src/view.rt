@@ -1,12 +1,10 @@
 //! A symbol of a link, as its file lends it.
 
-ghost use Rattle.std.specs.Prelude.{◌≡◌, ◌&&◌, Bool, false, true, not, option_map, option_and_then};
+ghost use Rattle.std.specs.Prelude.{◌≡◌, ◌&&◌, false, not, option_map, option_and_then};
 ghost use Rattle.link_files.specs.Origins.{definition_in, entry_in};
-ghost use Rattle.link_input.specs.Entries.{is_hidden, is_local, is_undefined, is_weak, section_of};
-ghost use Rattle.link_input.specs.Interposition.{is_default_visibility};
+ghost use Rattle.link_input.specs.Entries.{is_local, is_undefined, section_of};
 ghost use Rattle.link_input.specs.Symbols.{binding_strength, entry_passes, is_shared, object_in, visibility_in};
 ghost use Rattle.link_rules.specs.Loading.{is_forced_placement};
-ghost use Rattle.link_rules.specs.Names.{is_defining, is_listed, is_named, is_version_listed, is_version_named};
 ghost use Rattle.link_rules.specs.Rivals.{is_forced};
 ghost use Rattle.link_rules.specs.Targets.{is_open};
 ghost use Rattle.link_rules.specs.Undefined.{is_weak_symbol};
@@ -49,16 +47,6 @@ impl<'a> Model for SymbolView<'a> {
     ghost use Rattle.link_symbols.specs.Views.{seen_symbol};
 
     ghost view = { λ v. seen_symbol v.origin };
-}
-
-/// Whether a symbol stands at the place, so that it defines its name.
-fn is_defining(placement: &SymbolPlacement) -> bool
-    ensures { result ≡ is_defining placement.now }
-{
-    !matches!(
-        placement,
-        SymbolPlacement::Undefined | SymbolPlacement::ForceUndefined
-    )
 }
 
 /// Whether it is the place of a name that the user wants to be defined.
@@ -244,42 +232,6 @@ impl<'a> SymbolView<'a> {
         ensures { result ≡ is_reference self.now }
     {
         self.is_undefined_beyond() && !self.is_concealed()
-    }
-
-    /// It can be found by its plain name, if it is a definition.
-    fn is_named(&self) -> bool
-        ensures { result ≡ is_named self.now.name self.now.origin }
-    {
-        match &self.origin {
-            SymbolOrigin::Prelude(definition) => is_defining(&definition.placement),
-            SymbolOrigin::Object { row, .. } => !row.is_local() && row.is_default(),
-            SymbolOrigin::Script(definition) => !definition.name.is_empty(),
-            SymbolOrigin::Stub(_) => true,
-        }
-    }
-
-    /// It can be found by its name and version, if it is a definition.
-    fn is_version_named(&self) -> bool
-        ensures { result ≡ is_version_named self.now.origin }
-    {
-        match &self.origin {
-            SymbolOrigin::Object { row, .. } => !row.is_local(),
-            _ => false,
-        }
-    }
-
-    /// It is a definition that is found by its plain name.
-    pub fn is_listed(&self) -> bool
-        ensures { result ≡ is_listed self.now }
-    {
-        self.is_definition() && self.is_named()
-    }
-
-    /// It is a definition that is found by its name and version.
-    pub fn is_version_listed(&self) -> bool
-        ensures { result ≡ is_version_listed self.now }
-    {
-        self.is_definition() && self.is_version_named() && self.version().is_some()
     }
 
     /// It is a name that the user wants to be defined.

@@ -8,7 +8,7 @@ use Rattle.link_rules.specs.Marking.{reference_flags}
 use Rattle.link_rules.specs.Targets.{is_open, target_in}
 use Rattle.link_rules.specs.World.{is_reference}
 use Rattle.link_symbols.specs.Lookups.{target_at}
-use Rattle.link_loading.specs.declared.sources.SymbolSource.{SymbolSource}
+use Rattle.link_symbols.specs.declared.sources.SymbolSource.{SymbolSource}
 use Rattle.link_loading.specs.Requests.{request_by}
 use Rattle.link_db.specs.Database.{Database, name_table_of}
 use Rattle.link_work.specs.declared.found.FoundItem.{FoundItem}

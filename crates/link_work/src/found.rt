@@ -4,16 +4,16 @@ ghost use Rattle.std.specs.Prelude.{◌≡◌, ◌<◌, ◌++◌, ◌∷◌, [],
 ghost use Rattle.link_symbols.specs.Walk.{with_ids};
 ghost use Rattle.link_db.specs.Database.{symbol_names};
 ghost use Rattle.link_db.specs.Seen.{seen};
-ghost use Rattle.link_loading.specs.declared.sources.SymbolSource.{SymbolSource};
+ghost use Rattle.link_symbols.specs.declared.sources.SymbolSource.{SymbolSource};
 ghost use Rattle.link_work.specs.Asked.{IsFoundIn, found_mark, found_target, is_shared_by, known_by, mark_by, marks_by, new_target, requests_by, targets_by};
 
 use link_db::SymbolDb;
 use link_flags::ValueFlags;
 use link_ids::SymbolId;
 use link_input::Platform;
-use link_loading::{SymbolSource, looked_up, request_by};
+use link_loading::{looked_up, request_by};
 use link_marking::reference_flags;
-use link_symbols::{PartSymbols, SymbolView, target_of};
+use link_symbols::{PartSymbols, SymbolSource, SymbolView, target_of};
 use std::alloc::{AllocError, Global};
 
 /// A reference of an item, with what it stands for.

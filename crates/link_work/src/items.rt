@@ -44,7 +44,7 @@ pub fn work_items<P: Platform>(
 ) -> Result<Vec<WorkItem>, AllocError>
     ensures { IfOk result (λ items. items.items ≡ all_items 0 objects.now) }
 {
-    let mut items = Vec::new(alloc);
+    let mut items = Vec::with_capacity(alloc, objects.len())?;
     for place in 0..objects.len() {
         push_parts(&mut items, place, objects[place].num_symbols())?;
     }

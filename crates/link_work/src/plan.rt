@@ -17,8 +17,7 @@ use link_db::SymbolDb;
 use link_flags::ValueFlags;
 use link_ids::SymbolId;
 use link_input::Platform;
-use link_loading::SymbolSource;
-use link_symbols::ObjectSymbols;
+use link_symbols::{ObjectSymbols, SymbolSource};
 
 /// The work of a link over its database, as threads share it: items of the objects' tables, what is loaded whatever refers to it, and the
 /// flags with which symbols begin. What an item asks for is looked up as it is read.

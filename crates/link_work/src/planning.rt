@@ -25,9 +25,9 @@ use link_db::{SymbolDb, targets_are_symbols};
 use link_flags::{PerSymbolFlags, ValueFlags};
 use link_ids::SymbolId;
 use link_input::Platform;
-use link_loading::{referred_names, root_objects, symbol_sources};
+use link_loading::{referred_names, root_objects};
 use link_pool::Readable;
-use link_symbols::object_symbols;
+use link_symbols::{object_symbols, symbol_sources};
 use std::alloc::{AllocError, Global};
 
 impl<'a, P: Platform> LinkPlan<'a, P> {

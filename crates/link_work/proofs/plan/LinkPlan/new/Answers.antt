@@ -27,7 +27,7 @@ use Rattle.link_rules.proofs.Members.{map_from, range_from}
 use Rattle.link_rules.proofs.Settled.{filtered}
 use Rattle.link_stage.proofs.Tables.{stands-for}
 use Rattle.link_symbols.specs.Walk.{SymbolsLeft, symbols_of_object, with_ids}
-use Rattle.link_loading.specs.Sources.{sources_of}
+use Rattle.link_symbols.specs.Sources.{sources_of}
 use Rattle.link_loader.specs.Holds.{platform_of}
 use Rattle.link_db.specs.Database.{symbol_names}
 use Rattle.link_db.specs.Seen.{seen}

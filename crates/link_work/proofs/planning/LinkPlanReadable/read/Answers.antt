@@ -3,7 +3,7 @@ use Rattle.std.specs.Option.{option_map_or}
 use Rattle.std.proofs.lemmas.Option.{same_Some, slice_get_read, slice_get_within}
 use Rattle.link_input.specs.Symbols.{Symbol}
 use Rattle.link_symbols.specs.Walk.{SymbolsLeft, with_ids}
-use Rattle.link_loading.specs.declared.sources.SymbolSource.{SymbolSource}
+use Rattle.link_symbols.specs.declared.sources.SymbolSource.{SymbolSource}
 use Rattle.link_db.specs.Seen.{seen}
 use Rattle.link_work.specs.Asked.{IsFoundIn, known_by}
 use Rattle.link_work.specs.Items.{symbols_of_item}
