@@ -118,6 +118,7 @@ fn opening_words<P: Plan>(alloc: Global, plan: &P) -> Result<Vec<u64>, AllocErro
         return Err(AllocError);
     };
     let mut words = vec![in alloc; 0; zeros]?;
+    words.reserve(plan.symbols())?;
     for symbol in 0..plan.symbols() {
         let flags = plan.opening(SymbolId::from_usize(symbol));
         words.push(u64::from(flags.bits()))?;

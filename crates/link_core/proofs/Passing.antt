@@ -11,6 +11,8 @@ use Rattle.link_input.specs.declared.world.Scripts.{Scripts}
 use Rattle.link_input.specs.InputFiles.{Batch}
 use Rattle.link_input.specs.Symbols.{Symbol}
 use Rattle.link_flags.specs.declared.value_flags.RawFlags.{RawFlags}
+use Rattle.link_discarding.proofs.Newly.{regular-more}
+use Rattle.link_discarding.specs.Checked.{WereGroupsFine}
 use Rattle.link_discarding.specs.Indexed.{AreGroupsOf}
 use Rattle.link_files.specs.GroupFiles.{symbols_in}
 use Rattle.link_files.specs.HeldFiles.{names_in}
@@ -24,7 +26,7 @@ use Rattle.link_rules.specs.Loading.{IsLoaded}
 use Rattle.link_rules.specs.Marking.{ended, marked_flags}
 use Rattle.link_rules.specs.Orderly.{IsOrderly}
 use Rattle.link_rules.specs.Places.{Bytes, each_from, first_of, is_empty}
-use Rattle.link_rules.specs.Refusals.{duplicate_lines, linker_script_cause, text_refusal, unless_none, version_text_cause}
+use Rattle.link_rules.specs.Refusals.{duplicate_lines, empty_refusal, group_cause, group_refusal, linker_script_cause, text_refusal, unless_none, version_text_cause}
 use Rattle.link_rules.specs.Rivals.{reference_table, versioned_table}
 use Rattle.link_rules.specs.Rules.{PlatformRules, taken_text}
 use Rattle.link_rules.specs.Selection.{Selection, selection_of}
@@ -40,13 +42,13 @@ use Rattle.link_mapping.specs.Mapped.{AreListed, Mapped}
 use Rattle.link_symbols.specs.Lookups.{AreBelow}
 use Rattle.link_db.specs.Database.{Database, HasTable, no_names, symbol_names}
 use Rattle.link_resolve.specs.Known.{IsLoadedSelection, IsSelection, Known}
-use Rattle.link_resolve.specs.Resolving.{IsNextStage, Resolving, loading_cause, nothing_known, with_strengths}
+use Rattle.link_resolve.specs.Resolving.{IsNextStage, Resolving, loading_cause, nothing_known, with_groups}
 use Rattle.link_resolve.specs.Settled.{IsSettled}
 use Rattle.link_flags.specs.declared.strength.SymbolStrength.{SymbolStrength}
 use Rattle.link_core.specs.Given.{with_one_more}
 use Rattle.link_core.specs.Steps.{HasRoom, HasRules, IsAdded, IsBefore, IsEndedWith, IsHeldAt, IsLoadedWith, IsPointedWith, IsReady, IsRefusedWith, IsSettledWith, IsSteady, first_scripts, inputs_refusal}
 use Rattle.link_core.proofs.NextStage.{all-files}
-use Rattle.link_core.proofs.Batches.{ends-behind, first-none, links-loaded}
+use Rattle.link_core.proofs.Batches.{ends-behind, first-none, links-loaded, second-none}
 
 -- there is room for as much where the files are the same
 pub room-kept : {P : Type 0} (old new : Database P) (before after : List RawFlags) → new.mapping.files ≡ old.mapping.files → new.options ≡ old.options → HasTable new
@@ -121,14 +123,19 @@ next-stage platform demangle w done b before first db numbers after known is rea
   targets = ap (λ (e : Earlier). e.targets) ready.left;
 }
 
+-- no object that was loaded before lists a section twice there
+pub fine-grows : (before : Stage) (b : Batch) → IsOrderly before → WereGroupsFine before → WereGroupsFine (with_batch before b)
+fine-grows before b orderly fine =
+    ap (λ os. first_of (filter_map group_cause os)) (regular-more before.earlier.loaded before.objects b.objects orderly.loaded) ∙ fine
+
 -- once the batch is loaded, all batches of the world are held
 pub held-next : {P : Type 0} (platform : PlatformRules) (demangle : Bytes → Bytes) (w : World) (done : List Batch) (b : Batch) (before : Stage) (db : Database P)
     (read flags : List ℕ) (r : Resolving) (marks : List Bool) → IsBefore platform demangle w done b before → IsAdded platform demangle w (with_batch before b) db read
     → inputs_refusal (not (is_empty done)) before b ≡ None → IsLoaded (with_batch before b) marks → loading_cause (with_batch before b) marks ≡ None
-    → IsLoadedSelection platform demangle db r.known (selection_of (with_batch before b) marks) → AreGroupsOf marks (with_batch before b).objects r.groups
+    → IsLoadedSelection platform demangle db r.known (selection_of (with_batch before b) marks)
     → flags ≡ marked_flags (selection_of (with_batch before b) marks)
     → IsHeldAt platform demangle w (selection_of (with_batch before b) marks) db flags r
-held-next {P} platform demangle w done b before db read flags r marks is added none loaded fine selection groups marked =
+held-next platform demangle w done b before db read flags r marks is added none loaded fine selection marked =
     let s = with_batch before b in
     let l = selection_of s marks in
     record {
@@ -136,7 +143,7 @@ held-next {P} platform demangle w done b before db read flags r marks is added n
         selects = record { texts = is.texts; ends = is.ends (Ok l) (links-loaded (not (is_empty done)) before b marks none loaded fine) };
         selection = selection;
         is = refl;
-        groups = subst (λ (ms : List Bool). AreGroupsOf ms s.objects r.groups) selection.marks groups;
+        fine = second-none (empty_refusal s) (group_refusal l) fine;
         flags = marked;
       };
       least = loaded;
@@ -159,6 +166,7 @@ before-next platform demangle w b l db numbers r is = record {
   texts = is.loaded.selects.texts;
   ends = λ end links. ends-behind false (start_of w) w.first w.later l b end is.loaded.selects.ends links;
   orderly = subst (λ (k : Selection). IsOrderly (ended k)) (sym is.loaded.is) (orderly-stays l.stage l.marks is.orderly is.least);
+  fine = is.loaded.fine;
   files = record { options_are = is.files.options_are; symbols = is.files.symbols; objects = is.files.objects; scripts = is.files.scripts; stubs = is.files.stubs };
   texts_are = is.texts_are;
   rules_are = is.rules_are;
@@ -189,6 +197,7 @@ before-first platform demangle w one rules texts =
       texts = texts;
       ends = λ end links. subst (λ (bs : List Batch). EndsWith false (start_of w) w.first bs end) (sym one) links;
       orderly = orderly-start w;
+      fine = refl;
       files = record { options_are = files.same_options; symbols = files.symbols; objects = files.objects; scripts = files.scripts; stubs = files.stubs };
       texts_are = refl;
       rules_are = refl;
@@ -232,18 +241,24 @@ below-more n m targets more below = λ k d lt. by (slice_index_or targets k d) (
 
 -- ---- behind the last batch
 
+-- where no group was a cause, memory ran out
+pub only-memory : (A : Type 0) (cause : Option LinkError) (e : LinkError) → cause ≡ None → TellsCause {A = A} cause (Err e) → e ≡ Memory
+only-memory A cause e none (inl memory) = memory
+only-memory A cause e none (inr is) = absurd (let wrong : None ≡ Some e = sym none ∙ is in cc)
+
 -- each symbol points to what it stands for, with what was answered for what is loaded
 pub pointed-with : {P : Type 0} (platform : PlatformRules) (demangle : Bytes → Bytes) (w : World) (l : Selection) (old new : Database P) (numbers : List ℕ) (before after : Resolving) (strengths : List SymbolStrength)
-    → IsLoadedWith platform demangle w l old numbers before → after ≡ with_strengths strengths before
-    → ((s : Stage) (marks : List Bool) → IsLoadedSelection platform demangle old before.known (selection_of s marks) → AreGroupsOf marks s.objects before.groups → IsSelection platform demangle new after.known (selection_of s marks))
+    → IsLoadedWith platform demangle w l old numbers before → after ≡ with_groups after.groups strengths before
+    → ((s : Stage) (marks : List Bool) → IsLoadedSelection platform demangle old before.known (selection_of s marks) → IsSelection platform demangle new after.known (selection_of s marks))
+    → ((s : Stage) (marks : List Bool) → IsLoadedSelection platform demangle old before.known (selection_of s marks) → AreGroupsOf marks s.objects after.groups)
     → (IsLoadedSelection platform demangle old before.known l → new.table ≡ reference_table l)
     → IsPointedWith platform demangle w l new numbers after
-pointed-with platform demangle w l old new numbers before after strengths loaded same selection table = record {
+pointed-with platform demangle w l old new numbers before after strengths loaded same selection groups table = record {
   selects = loaded.selects;
   selection = subst (λ (k : Selection). IsSelection platform demangle new after.known k) (sym loaded.is)
-      (selection l.stage l.marks (subst (λ (k : Selection). IsLoadedSelection platform demangle old before.known k) loaded.is loaded.selection)
-      (subst (λ (ms : List Bool). AreGroupsOf ms l.stage.objects before.groups) (sym loaded.selection.marks) loaded.groups));
-  groups = subst (λ (r : Resolving). AreGroupsOf r.known.marks l.stage.objects r.groups) (sym same) loaded.groups;
+      (selection l.stage l.marks (subst (λ (k : Selection). IsLoadedSelection platform demangle old before.known k) loaded.is loaded.selection));
+  groups = subst (λ (ms : List Bool). AreGroupsOf ms l.stage.objects after.groups) (loaded.selection.marks ∙ sym (ap (λ (r : Resolving). r.known.marks) same))
+      (groups l.stage l.marks (subst (λ (k : Selection). IsLoadedSelection platform demangle old before.known k) loaded.is loaded.selection));
   table = table loaded.selection;
   flags = loaded.flags;
 }

@@ -3,6 +3,7 @@ use Rattle.std.specs.Prelude.{ℕ, ◌≡◌, ◌⊎◌, ◌+◌, ◌*◌, ◌<�
 use Rattle.std.specs.List.{flat_map}
 use Rattle.link_flags.specs.declared.value_flags.RawFlags.{RawFlags}
 use Rattle.link_flags.specs.FlagWords.{numbers_of}
+use Rattle.link_discarding.specs.Checked.{WereGroupsFine}
 use Rattle.link_discarding.specs.Indexed.{AreGroupsOf}
 use Rattle.link_files.specs.GroupFiles.{symbols_in}
 use Rattle.link_files.specs.Inputs.{objects_in}
@@ -20,7 +21,7 @@ use Rattle.link_rules.specs.Loading.{IsLoaded}
 use Rattle.link_rules.specs.Marking.{flags_before, marked_flags}
 use Rattle.link_rules.specs.Orderly.{IsOrderly}
 use Rattle.link_rules.specs.Places.{Bytes, each_from, is_empty}
-use Rattle.link_rules.specs.Refusals.{duplicate_lines, first_cause, limit_refusal, linker_script_cause, text_refusal, unless_none}
+use Rattle.link_rules.specs.Refusals.{duplicate_lines, first_cause, group_refusal, limit_refusal, linker_script_cause, text_refusal, unless_none}
 use Rattle.link_rules.specs.Rivals.{reference_table, versioned_table}
 use Rattle.link_rules.specs.Rules.{PlatformRules, rules_of, taken_text}
 use Rattle.link_rules.specs.Selection.{Selection, selection_of}
@@ -87,6 +88,7 @@ pub record IsBefore (platform : PlatformRules) (demangle : Bytes → Bytes) (w :
   pub texts : text_refusal w ≡ None
   pub ends : (end : End) → LinksBatch (not (is_empty done)) before b (λ l. end ≡ Ok l) end → BatchesEnd w end
   pub orderly : IsOrderly before
+  pub fine : WereGroupsFine before
   pub files : HasFilesOf w.options done before
   pub texts_are : before.texts ≡ w.texts
   pub rules_are : before.rules ≡ w.rules
@@ -123,7 +125,7 @@ pub record IsLoadedWith {P : Type 0} (platform : PlatformRules) (demangle : Byte
   pub selects : Selects w l
   pub selection : IsLoadedSelection platform demangle db r.known l
   pub is : l ≡ selection_of l.stage l.marks
-  pub groups : AreGroupsOf r.known.marks l.stage.objects r.groups
+  pub fine : group_refusal l ≡ None
   pub flags : numbers ≡ marked_flags l
 
 -- so they are, and another batch may come behind those of the world
@@ -161,7 +163,7 @@ IsOpenWith platform demangle options texts (b ∷ bs) db words r = IsHeld platfo
 abbrev pub undefined_ids : Selection → List ℕ
 undefined_ids l = map (λ u. u.0) (filter (λ u. is_last_alike (left_undefined l) u && not (is_boundary_maker l.stage (left_undefined l) u)) (left_undefined l))
 
--- behind the last batch each symbol points to what it stands for, and it is known how strongly each binds
+-- behind the last batch the groups that are kept are chosen, each symbol points to what it stands for, and it is known how strongly each binds
 pub record IsPointedWith {P : Type 0} (platform : PlatformRules) (demangle : Bytes → Bytes) (w : World) (l : Selection) (db : Database P) (numbers : List ℕ) (r : Resolving) : Type 0 where
   pub selects : Selects w l
   pub selection : IsSelection platform demangle db r.known l

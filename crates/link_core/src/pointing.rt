@@ -19,8 +19,8 @@ use link_resolve::Resolver;
 use link_rules::LinkError;
 use std::alloc::Global;
 
-/// Points each symbol to what it stands for before rivals are settled, and tells how strongly each binds. This is done once, behind the last batch: it goes over
-/// all symbols.
+/// Chooses the section groups that are kept, points each symbol to what it stands for before rivals are settled, and tells how strongly each binds. This is done
+/// once, behind the last batch: it goes over all objects and symbols.
 pub(crate) fn point_symbols<P: Platform>(
     alloc: Global,
     db: &mut SymbolDb<P>,
@@ -32,7 +32,8 @@ pub(crate) fn point_symbols<P: Platform>(
     ensures room { OnOk result (HasRoom (seen db.new) (words_of flags.now)) }
     ensures listed { OnOk result (IsListed (seen db.new)) }
     ensures strengths { OnOk result (length resolver.new.known.strengths ≡ length (symbols_in (seen db.new).mapping.files.groups)) }
-    ensures refused { IfErr result (λ error. error ≡ Memory) }
+    ensures refused { IfErr result (λ error. (demangle : Bytes → Bytes) (w : World) (l : Selection)
+        → IsLoadedWith (platform_of P.Platform) demangle w l (seen db.old) (numbers_of (words_of flags.now)) resolver.old → error ≡ Memory) }
     ensures pointed { OnOk result ((demangle : Bytes → Bytes) (w : World) (l : Selection)
         → IsLoadedWith (platform_of P.Platform) demangle w l (seen db.old) (numbers_of (words_of flags.now)) resolver.old
         → IsPointedWith (platform_of P.Platform) demangle w l (seen db.new) (numbers_of (words_of flags.now)) resolver.new) }

@@ -168,7 +168,7 @@ impl<P: Platform + Sync> SymbolDb<P> {
         let more = symbols_of_groups(groups.as_slice());
         let output = self.options.output;
         let parts = read_groups(rt, alloc, &self.rules, output, demangler, groups.as_slice())?;
-        let grown = grown_flags(alloc, flags, parts.as_slice())?;
+        let grown = grown_flags(alloc, flags, more, parts.as_slice())?;
         let mut entries = new_entries(alloc, held, held + more)?;
         self.table.append(&mut entries)?;
         if let Err(error) = self.mapping.add_groups(rt, alloc, groups, parts.as_slice()) {

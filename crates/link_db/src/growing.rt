@@ -53,16 +53,18 @@ fn push_parts(flags: &mut PerSymbolFlags, parts: &[ReadSymbols]) -> Result<(), A
     Ok(())
 }
 
-/// The words that there are, and those of the symbols that were read behind them.
+/// The words that there are, and those of the symbols that were read behind them, of which there are so many.
 pub fn grown_flags(
     alloc: Global,
     flags: &PerSymbolFlags,
+    more: usize,
     parts: &[ReadSymbols],
 ) -> Result<PerSymbolFlags, AllocError>
     requires { length (words_of flags.now) < 2 ^ 32 }
     ensures { IfOk result (λ grown. numbers_of (words_of grown) ≡ numbers_of (words_of flags.now) ++ flags_in parts.now) }
 {
     let mut grown = PerSymbolFlags::new(alloc);
+    grown.reserve(flags.len().saturating_add(more))?;
     let all = SymbolIdRange::prelude(flags.len());
     push_words(&mut grown, flags.raw_range(all))?;
     push_parts(&mut grown, parts)?;

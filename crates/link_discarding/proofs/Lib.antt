@@ -6,3 +6,4 @@ pub mod Same
 pub mod Numbered
 pub mod Named
 pub mod Listing
+pub mod Newly

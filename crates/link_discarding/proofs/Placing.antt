@@ -13,7 +13,7 @@ use Rattle.link_groups.specs.Groups.{files_of}
 use Rattle.link_files.specs.Inputs.{object_of, objects_in}
 
 -- the objects of the first group, and those of the rest
-objects-first : {P : Type 0} (g : Group P) (gs : List (Group P)) → objects_in (g ∷ gs) ≡ objects_in (g ∷ []) ++ objects_in gs
+pub objects-first : {P : Type 0} (g : Group P) (gs : List (Group P)) → objects_in (g ∷ gs) ≡ objects_in (g ∷ []) ++ objects_in gs
 objects-first {P} g gs =
     let of_file = λ (f : SequencedFile). object_of f.file in
     filter_map-append of_file (files_of g) (flat_map files_of gs)

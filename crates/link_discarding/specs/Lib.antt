@@ -2,3 +2,4 @@ pub mod Regular
 pub mod Indexed
 pub mod Discarded
 pub mod Signatures
+pub mod Checked

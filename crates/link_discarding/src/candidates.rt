@@ -13,7 +13,7 @@ use link_input::Platform;
 use std::alloc::{AllocError, Global};
 
 /// The mark at this place; none is set past the end.
-fn is_marked(marks: &[bool], at: usize) -> bool
+pub(crate) fn is_marked(marks: &[bool], at: usize) -> bool
     ensures { result ≡ is_marked marks.now at }
 {
     marks.get(at).copied().unwrap_or(false)

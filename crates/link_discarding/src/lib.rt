@@ -2,6 +2,7 @@
 #![tactic(auto)]
 
 mod candidates;
+mod checking;
 mod indices;
 mod laws;
 mod loaded_groups;
@@ -9,6 +10,7 @@ mod placed;
 mod signatures;
 
 pub use candidates::regular_candidates;
+pub use checking::check_groups;
 pub use laws::discarded_sections_are_those_of_a_link;
 pub use loaded_groups::LoadedGroups;
 pub use placed::placed_objects;

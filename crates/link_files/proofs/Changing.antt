@@ -177,7 +177,7 @@ grown-written {P} groups u ids read n last all at kind made =
     ∙ (ap (λ (g : Group P). before ++ g ∷ []) new ∙ sym (ap (λ (gs : List (Group P)). with_id gs) last.1.1 ∙ with-id-last before (group.SyntheticSymbols s)))
 
 -- groups of which the last one has an id more end so too
-with-id-is : {P : Type 0} (groups before : List (Group P)) (last : EndsInSynthetic before) → groups ≡ with_id before → groups ≡ last.0 ++ group.SyntheticSymbols (with_len last.1.0 (last.1.0.symbol_id_range.len + 1)) ∷ []
+pub with-id-is : {P : Type 0} (groups before : List (Group P)) (last : EndsInSynthetic before) → groups ≡ with_id before → groups ≡ last.0 ++ group.SyntheticSymbols (with_len last.1.0 (last.1.0.symbol_id_range.len + 1)) ∷ []
 with-id-is {P} groups before last is = is ∙ (ap (λ (gs : List (Group P)). with_id gs) last.1.1 ∙ with-id-last last.0 (group.SyntheticSymbols last.1.0))
 
 -- they aren't empty

@@ -1,15 +1,14 @@
 -- What the groups of batches hold, and groups that follow them.
 use Rattle.std.proofs.Common.{◌≡◌, ◌+◌, ◌++◌, ◌∙◌, ℕ, List, [], ◌∷◌, true, false, length, map, Option, Some, None, refl, ap, subst, arith}
 use Rattle.std.specs.Prelude.{not}
-use Rattle.std.specs.List.{cons_option, filter_map, flat_map, AllByRecursion}
+use Rattle.std.specs.List.{filter_map, flat_map, AllByRecursion}
 use Rattle.std.proofs.lemmas.List.{append-nil, map-append}
 use Rattle.std.proofs.lemmas.List.Concat.{flat_map-append}
 use Rattle.std.proofs.lemmas.List.Elements.{filter_map-append}
 use Rattle.link_input.specs.declared.options.Options.{Options}
-use Rattle.link_input.specs.InputFiles.{Batch, InputFile, prelude, object, linker_script, stub_library, synthetic, batch_files, input_files, object_count, section_count, stub_input, stub_symbol, symbol_count}
+use Rattle.link_input.specs.InputFiles.{Batch, InputFile, object, linker_script, batch_files, input_files, object_count, section_count, stub_input, stub_symbol, symbol_count}
 use Rattle.link_input.specs.declared.world.StubLibrary.{StubLibrary}
 use Rattle.link_input.specs.Limits.{total}
-use Rattle.link_input.specs.ObjectFile.{ObjectFile}
 use Rattle.link_input.specs.SequencedFiles.{SequencedFile, sequenced}
 use Rattle.link_input.specs.Symbols.{symbols_of}
 use Rattle.link_groups.specs.declared.group.Group.{Group}

@@ -10,3 +10,4 @@ pub mod Joining
 pub mod Entries
 pub mod Picking
 pub mod Prefix
+pub mod Outlined

@@ -5,3 +5,4 @@ pub mod HeldFiles
 pub mod Numbered
 pub mod Inputs
 pub mod Adding
+pub mod Outlines

@@ -3,7 +3,8 @@
 ghost use Rattle.std.specs.Prelude.{◌≡◌, List};
 ghost use Rattle.link_files.specs.Adding.{EndsInSynthetic, HasRoom, with_id};
 
-use crate::files::Files;
+use crate::files::{Files, append_both};
+use crate::outlines::group_outlines;
 use crate::starts::group_starts;
 use link_groups::{Group, SyntheticSymbols};
 use link_ids::{FileId, SymbolId, SymbolIdRange};
@@ -70,11 +71,14 @@ impl<P: Platform> Files<P> {
         ensures ok { OnOk result (self.new ≡ record self.old { groups = self.old.groups ++ group ∷ [] }) }
         ensures err { OnErr result (self.new ≡ self.old) }
     {
-        let held = self.starts.len();
-        let mut starts = group_starts(alloc, &group)?;
-        self.starts.append(&mut starts)?;
+        let started = self.starts.len();
+        let outlined = self.outlines.len();
+        let starts = group_starts(alloc, &group)?;
+        let outlines = group_outlines(alloc, &group)?;
+        append_both(&mut self.starts, starts, &mut self.outlines, outlines)?;
         if let Err(error) = self.groups.push(group) {
-            self.starts.truncate(held);
+            self.starts.truncate(started);
+            self.outlines.truncate(outlined);
             return Err(error.into());
         }
         Ok(())

@@ -1,7 +1,8 @@
 //! The files that a link holds.
 
-ghost use Rattle.std.specs.Prelude.{◌≡◌};
+ghost use Rattle.std.specs.Prelude.{◌≡◌, ◌++◌, OnErr, OnOk};
 
+use crate::outlines::{FileOutline, outlines_of};
 use crate::search::place_of;
 use crate::starts::{FileStart, starts_of};
 use link_groups::{Group, SequencedInput};
@@ -21,17 +22,42 @@ pub struct Files<P: Platform> {
     pub(crate) added: Vec<Name>,
     /// Where the ids of each file begin, in their order.
     pub(crate) starts: Vec<FileStart>,
+    /// What passes over all files ask of each, in their order.
+    pub(crate) outlines: Vec<FileOutline>,
 }
 
 impl<P: Platform> Model for Files<P> {
+    ghost use Rattle.std.specs.Prelude.{◌≡◌};
     ghost use Rattle.link_files.specs.HeldFiles.{HeldFiles};
     ghost use Rattle.link_files.specs.Numbered.{AreHeld};
+    ghost use Rattle.link_files.specs.Outlines.{outlines_of};
 
     ghost Value = { HeldFiles P };
 
     ghost view = { λ f. record { groups = f.groups.items; added = f.added.items } };
 
-    ghost invariant = { λ f. AreHeld (record { groups = f.groups.items; added = f.added.items }) f.starts.items };
+    ghost invariant = { λ f. AreHeld (record { groups = f.groups.items; added = f.added.items }) f.starts.items × (f.outlines.items ≡ outlines_of f.groups.items) };
+}
+
+/// Puts two lists behind two others. After a refusal, which is want of memory, these are as before.
+pub(crate) fn append_both<A: Drop, B: Drop>(
+    left: &mut Vec<A>,
+    mut more_left: Vec<A>,
+    right: &mut Vec<B>,
+    mut more_right: Vec<B>,
+) -> Result<(), AllocError>
+    ensures left { OnOk result (left.new.items ≡ left.old.items ++ more_left.items) }
+    ensures right { OnOk result (right.new.items ≡ right.old.items ++ more_right.items) }
+    ensures left_unchanged { OnErr result (left.new.items ≡ left.old.items) }
+    ensures right_unchanged { OnErr result (right.new.items ≡ right.old.items) }
+{
+    let held = left.len();
+    left.append(&mut more_left)?;
+    if let Err(error) = right.append(&mut more_right) {
+        left.truncate(held);
+        return Err(error);
+    }
+    Ok(())
 }
 
 impl<P: Platform> Files<P> {
@@ -40,6 +66,7 @@ impl<P: Platform> Files<P> {
     ghost use Rattle.link_files.specs.GroupFiles.{AreGroupsOfLink, IsFileOf, IsIn, file_at, symbols_in};
     ghost use Rattle.link_files.specs.HeldFiles.{names_in, object_with};
     ghost use Rattle.link_files.specs.Inputs.{objects_before};
+    ghost use Rattle.link_files.specs.Outlines.{outlines_of};
 
     /// No files. Takes no memory.
     pub fn new(alloc: Global) -> Self
@@ -49,6 +76,7 @@ impl<P: Platform> Files<P> {
             groups: Vec::new(alloc),
             added: Vec::new(alloc),
             starts: Vec::new(alloc),
+            outlines: Vec::new(alloc),
         }
     }
 
@@ -59,6 +87,13 @@ impl<P: Platform> Files<P> {
         self.groups.as_slice()
     }
 
+    /// What passes over all files ask of each, in the order of the files.
+    pub fn outlines(&self) -> &[FileOutline]
+        ensures { result.now ≡ outlines_of self.now.groups }
+    {
+        self.outlines.as_slice()
+    }
+
     /// Adds the groups of a batch, before the linker adds any symbol. After a refusal, which is want of memory, all is as before.
     pub fn add_groups(&mut self, alloc: Global, groups: Vec<Group<P>>) -> Result<(), AllocError>
         requires { AreGroupsOfLink (self.old.groups ++ groups.items) }
@@ -66,12 +101,15 @@ impl<P: Platform> Files<P> {
         ensures none { OnOk result (self.old.added ≡ []) }
         ensures err { OnErr result (self.new ≡ self.old) }
     {
-        let held = self.starts.len();
+        let started = self.starts.len();
+        let outlined = self.outlines.len();
         let mut groups = groups;
-        let mut starts = starts_of(alloc, groups.as_slice())?;
-        self.starts.append(&mut starts)?;
+        let starts = starts_of(alloc, groups.as_slice())?;
+        let outlines = outlines_of(alloc, groups.as_slice())?;
+        append_both(&mut self.starts, starts, &mut self.outlines, outlines)?;
         if let Err(error) = self.groups.append(&mut groups) {
-            self.starts.truncate(held);
+            self.starts.truncate(started);
+            self.outlines.truncate(outlined);
             return Err(error);
         }
         Ok(())

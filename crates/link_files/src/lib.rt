@@ -4,9 +4,11 @@
 mod adding;
 mod counting;
 mod files;
+mod outlines;
 mod removing;
 mod search;
 mod starts;
 mod symbol_queries;
 
 pub use files::Files;
+pub use outlines::{FileOutline, object_count, symbol_count};

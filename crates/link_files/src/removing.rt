@@ -25,5 +25,6 @@ impl<P: Platform> Files<P> {
     {
         self.groups.truncate(groups);
         self.starts.truncate(files);
+        self.outlines.truncate(files);
     }
 }

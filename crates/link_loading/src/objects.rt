@@ -3,9 +3,13 @@
 ghost use Rattle.std.specs.Prelude.{◌≡◌, ◌++◌, [], ◌∷◌, IfOk, OnOk, length, map};
 ghost use Rattle.link_closure.specs.Closure.{is_marked};
 ghost use Rattle.link_files.specs.Inputs.{objects_in};
+ghost use Rattle.link_files.specs.Outlines.{outline_of};
+ghost use Rattle.link_input.specs.SequencedFiles.{SequencedFile};
 ghost use Rattle.link_loading.specs.Objects.{is_kept, kept_marks};
 ghost use Rattle.link_rules.specs.Places.{each_from};
+ghost use Rattle.link_symbols.specs.Walk.{objects_among};
 
+use link_files::{FileOutline, Files};
 use link_groups::{Group, SequencedInputObject};
 use link_input::Platform;
 use std::alloc::{AllocError, Global};
@@ -27,32 +31,34 @@ fn is_marked(marks: &[bool], at: usize) -> bool
     marks.get(at).copied().unwrap_or(false)
 }
 
-/// Adds marks for objects: that an earlier batch had one loaded, or that it isn't optional.
-fn push_marks<P: Platform>(
+/// Adds the mark of a file of this outline, if it is an object: that an earlier batch had it loaded, or that it isn't optional.
+fn push_mark(
     marks: &mut Vec<bool>,
     earlier: &[bool],
-    objects: &[SequencedInputObject<P>],
+    outline: &FileOutline,
 ) -> Result<(), AllocError>
-    ensures { OnOk result (marks.new.items ≡ marks.old.items ++ each_from (is_kept earlier.now) (length marks.old.items) (map (λ o. o.parsed) objects.now)) }
+    ensures { OnOk result ((f : SequencedFile) → outline.now ≡ outline_of f.file
+        → marks.new.items ≡ marks.old.items ++ each_from (is_kept earlier.now) (length marks.old.items) (objects_among (f ∷ []))) }
 {
-    for object in objects {
-        let is_kept = is_marked(earlier, marks.len()) || !object.is_optional();
+    if outline.is_object {
+        let is_kept = is_marked(earlier, marks.len()) || !outline.is_optional;
         marks.push(is_kept)?;
     }
     Ok(())
 }
 
-/// A mark for each object of groups: that an earlier batch had it loaded, or that it isn't optional.
+/// A mark for each object of files: that an earlier batch had it loaded, or that it isn't optional.
 pub fn object_marks<P: Platform>(
     alloc: Global,
-    groups: &[Group<P>],
+    files: &Files<P>,
     earlier: &[bool],
 ) -> Result<Vec<bool>, AllocError>
-    ensures { IfOk result (λ marks. marks.items ≡ kept_marks earlier.now (objects_in groups.now)) }
+    ensures { IfOk result (λ marks. marks.items ≡ kept_marks earlier.now (objects_in files.now.groups)) }
 {
-    let mut marks = Vec::new(alloc);
-    for group in groups {
-        push_marks(&mut marks, earlier, objects_of(group))?;
+    let mut marks = Vec::with_capacity(alloc, files.num_objects())?;
+    let outlines = files.outlines();
+    for outline in outlines {
+        push_mark(&mut marks, earlier, outline)?;
     }
     Ok(marks)
 }

@@ -80,7 +80,7 @@ pub fn root_objects<P: Platform>(
     ensures roots { IfOk result (λ roots. (demangle : Bytes → Bytes) (w : Stage) → IsAtStage (platform_of P.Platform) demangle (seen db.now) w
         → w.earlier.loaded ≡ loaded_before.now → (f : ℕ) → is_marked roots.items f ≡ is_root w f) }
 {
-    let mut roots = object_marks(alloc, db.groups(), loaded_before)?;
+    let mut roots = object_marks(alloc, db.files(), loaded_before)?;
     let names = root_names(alloc, db)?;
     mark_holders(db, sources, &mut roots, &names);
     Ok(roots)

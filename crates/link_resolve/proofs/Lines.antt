@@ -9,7 +9,7 @@ use Rattle.link_input.specs.Symbols.{Symbol}
 use Rattle.link_groups.specs.declared.group.Group.{Group}
 use Rattle.link_files.specs.Inputs.{objects_in}
 use Rattle.link_loader.proofs.Forced.{rest_is}
-use Rattle.link_loading.proofs.GroupObjects.{objects-first}
+use Rattle.link_discarding.proofs.Placing.{objects-first}
 use Rattle.link_rivals.specs.Settled.{clash_line, name_at}
 use Rattle.link_rivals.specs.declared.settling.Clash.{Clash}
 use Rattle.link_rules.specs.Places.{Bytes}

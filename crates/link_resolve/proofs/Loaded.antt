@@ -42,16 +42,22 @@ known-is w marks loaded targets strengths own asked targets_are strengths_are =
     ∙ (ap (λ (ss : List SymbolStrength). known_with loaded (each_from (loaded_target w loaded) 0 w.symbols) ss) strengths_are
     ∙ ap (λ (ms : List Bool). known_of (selection_of w ms)) (one-loaded w loaded marks own asked))
 
--- what was selected of the groups of these loaded objects is that of as many
-pub groups-are : (w : Stage) (marks loaded given : List Bool) (objects : List ObjectFile) (g : IndexedGroups) → IsLoaded w loaded → IsLoaded w marks → given ≡ loaded → objects ≡ w.objects
-    → g.groups ≡ selected (regular_among given objects) → ((f : ℕ) → index_at g.indices f ≡ index_of (regular_among given objects) f) → AreGroupsOf marks w.objects g
-groups-are w marks loaded given objects g own asked given_is objects_are groups indices =
-    let same : regular_among given objects ≡ regular_among marks w.objects =
-    ap (λ (ms : List Bool). regular_among ms objects) (given_is ∙ one-loaded w loaded marks own asked) ∙ ap (λ (os : List ObjectFile). regular_among marks os) objects_are in
+-- what was selected of the groups of these objects, where these are loaded
+pub chosen-are : (marks : List Bool) (objects : List ObjectFile) (given : List Bool) (among : List ObjectFile) (g : IndexedGroups) → given ≡ marks → among ≡ objects
+    → g.groups ≡ selected (regular_among given among) → ((f : ℕ) → index_at g.indices f ≡ index_of (regular_among given among) f) → AreGroupsOf marks objects g
+chosen-are marks objects given among g given_is objects_are groups indices =
+    let same : regular_among given among ≡ regular_among marks objects =
+    ap (λ (ms : List Bool). regular_among ms among) given_is ∙ ap (λ (os : List ObjectFile). regular_among marks os) objects_are in
     record {
       groups = groups ∙ ap (λ (os : List (ℕ × ObjectFile)). selected os) same;
       indices = λ f. indices f ∙ ap (λ (os : List (ℕ × ObjectFile)). index_of os f) same;
     }
+
+-- what was selected of the groups of these loaded objects is that of as many
+pub groups-are : (w : Stage) (marks loaded given : List Bool) (objects : List ObjectFile) (g : IndexedGroups) → IsLoaded w loaded → IsLoaded w marks → given ≡ loaded → objects ≡ w.objects
+    → g.groups ≡ selected (regular_among given objects) → ((f : ℕ) → index_at g.indices f ≡ index_of (regular_among given objects) f) → AreGroupsOf marks w.objects g
+groups-are w marks loaded given objects g own asked given_is objects_are groups indices =
+    chosen-are marks w.objects given objects g (given_is ∙ one-loaded w loaded marks own asked) objects_are groups indices
 
 -- how strongly symbols bind by what was selected
 pub strengths-are : (w : Stage) (loaded given : List Bool) (symbols : List Symbol) (g : IndexedGroups) (strengths : List SymbolStrength) → AreGroupsOf loaded w.objects g → given ≡ loaded → symbols ≡ w.symbols
@@ -119,17 +125,16 @@ is-selection {P} platform demangle old new w marks known mapping options rules a
   strengths = sym (ap (λ (k : Known). k.strengths) is);
 }
 
--- behind the last batch, what is known of a selection is all of it, once it was computed how strongly symbols bind
-pub pointed-is : {P : Type 0} (platform : PlatformRules) (demangle : Bytes → Bytes) (old new : Database P) (w : Stage) (marks given : List Bool) (parts r : Resolving) (known : Known) (symbols : List Symbol) (strengths : List SymbolStrength)
-    → parts ≡ r → IsLoadedSelection platform demangle old r.known (selection_of w marks) → AreGroupsOf marks w.objects r.groups
-    → given ≡ parts.known.marks → symbols ≡ symbols_in old.mapping.files.groups → strengths ≡ map (λ x. surviving_origin given (discarded_in parts.groups) x.origin) symbols
+-- behind the last batch, what is known of a selection is all of it, once its groups are chosen and it was computed how strongly symbols bind
+pub pointed-is : {P : Type 0} (platform : PlatformRules) (demangle : Bytes → Bytes) (old new : Database P) (w : Stage) (marks given : List Bool) (parts r : Resolving) (known : Known) (symbols : List Symbol) (groups : IndexedGroups) (strengths : List SymbolStrength)
+    → parts ≡ r → IsLoadedSelection platform demangle old r.known (selection_of w marks) → AreGroupsOf marks w.objects groups
+    → given ≡ parts.known.marks → symbols ≡ symbols_in old.mapping.files.groups → strengths ≡ map (λ x. surviving_origin given (discarded_in groups) x.origin) symbols
     → known ≡ record parts.known { strengths = strengths } → new.mapping ≡ old.mapping → new.options ≡ old.options → new.rules ≡ old.rules
     → IsSelection platform demangle new known (selection_of w marks)
-pointed-is platform demangle old new w marks given parts r known symbols strengths same at groups given_is symbols_are is known_is mapping options rules =
+pointed-is platform demangle old new w marks given parts r known symbols groups strengths same at are given_is symbols_are is known_is mapping options rules =
     let own : parts.known.marks ≡ marks = ap (λ (x : Resolving). x.known.marks) same ∙ sym at.marks in
     let targets : parts.known.targets ≡ (selection_of w marks).targets = ap (λ (x : Resolving). x.known.targets) same ∙ sym at.targets in
-    let are : AreGroupsOf marks w.objects parts.groups = subst (λ (x : Resolving). AreGroupsOf marks w.objects x.groups) (sym same) groups in
-    let binds : strengths ≡ (selection_of w marks).strengths = strengths-are w marks given symbols parts.groups strengths are (given_is ∙ own) (symbols_are ∙ sym at.stage.symbols) is in
+    let binds : strengths ≡ (selection_of w marks).strengths = strengths-are w marks given symbols groups strengths are (given_is ∙ own) (symbols_are ∙ sym at.stage.symbols) is in
     is-selection platform demangle old new w marks known mapping options rules at.stage (known_is ∙ (λ i. record { marks = own i; targets = targets i; strengths = binds i }))
 
 -- a stage before which a resolver knew something, by what its parts know

@@ -35,9 +35,9 @@ pub record IsNextStage {P : Type 0} (platform : PlatformRules) (demangle : Bytes
 abbrev pub known_of : Selection → Known
 known_of l = record { marks = l.marks; targets = l.targets; strengths = l.strengths }
 
--- the same resolver, which knows that symbols bind so strongly
-abbrev pub with_strengths : List SymbolStrength → Resolving → Resolving
-with_strengths strengths r = record r { known = record r.known { strengths = strengths } }
+-- the same resolver, which has these groups, and knows that symbols bind so strongly
+abbrev pub with_groups : IndexedGroups → List SymbolStrength → Resolving → Resolving
+with_groups groups strengths r = record r { known = record r.known { strengths = strengths }; groups = groups }
 
 -- the first cause that a batch brings once it is read, where these objects are loaded: no object, or a section in two groups
 abbrev pub loading_cause : Stage → List Bool → Option LinkError

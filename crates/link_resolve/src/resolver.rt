@@ -1,7 +1,8 @@
 //! The resolver: which objects of a link are loaded, and what follows for each symbol.
 
 ghost use Rattle.std.specs.Prelude.{◌≡◌, ◌≤◌, ◌<◌, [], All, Bool, IfOk, IfSome, IsTrue, List, OnErr, OnOk, is_some, length, option_map};
-ghost use Rattle.link_discarding.specs.Indexed.{AreGroupsOf};
+ghost use Rattle.link_discarding.specs.Checked.{WereGroupsFine};
+ghost use Rattle.link_discarding.specs.Indexed.{AreGroupsOf, no_groups};
 ghost use Rattle.link_files.specs.GroupFiles.{symbols_in};
 ghost use Rattle.link_files.specs.Inputs.{objects_in};
 ghost use Rattle.link_flags.specs.FlagWords.{numbers_of, words_of};
@@ -23,13 +24,13 @@ ghost use Rattle.link_symbols.specs.Lookups.{AreBelow};
 ghost use Rattle.link_db.specs.Database.{HasTable, symbol_names};
 ghost use Rattle.link_db.specs.Seen.{seen};
 ghost use Rattle.link_resolve.specs.Known.{IsListed, IsLoadedSelection, IsSelection};
-ghost use Rattle.link_resolve.specs.Resolving.{IsNextStage, known_of, loading_cause, nothing_known, with_strengths};
+ghost use Rattle.link_resolve.specs.Resolving.{IsNextStage, known_of, loading_cause, nothing_known, with_groups};
 
 use crate::definitions::{Definitions, names_are_mapped_to_symbols};
 use crate::resolved::Resolved;
 use link_claim::{Closed, Gate};
 use link_db::SymbolDb;
-use link_discarding::LoadedGroups;
+use link_discarding::{LoadedGroups, check_groups};
 use link_flags::PerSymbolFlags;
 use link_ids::SymbolId;
 use link_input::Platform;
@@ -214,7 +215,7 @@ impl Resolver {
         &self.resolved
     }
 
-    /// The section groups of the loaded regular objects.
+    /// The section groups of the loaded regular objects; those of none behind `load_batch`, before `point_references` chooses among them.
     pub fn loaded_groups(&self) -> &LoadedGroups
         ensures { result.now ≡ self.now.groups }
     {
@@ -291,8 +292,9 @@ impl Resolver {
         Ok(requests)
     }
 
-    /// Loads the objects of a batch as `resolve_counted` does, and tells how many requests were made; what each symbol points to, and how strongly it binds, is
-    /// left to `point_references`, which is asked once behind the last batch. So a batch doesn't pay for all symbols of those before it.
+    /// Loads the objects of a batch as `resolve_counted` does, and tells how many requests were made; which section groups are kept, what each symbol points to,
+    /// and how strongly it binds, is left to `point_references`, which is asked once behind the last batch. So a batch doesn't pay for all objects and symbols of
+    /// those before it: of the groups it looks at those alone of objects that it loads itself, where earlier batches were not refused for theirs.
     pub fn load_batch<R: Threads + Sync, G: Gate + Sync, P: Platform + Sync>(
         &mut self,
         rt: &R,
@@ -306,11 +308,10 @@ impl Resolver {
         requires loaded { length self.old.known.marks ≤ length (objects_in (seen db.now).mapping.files.groups) }
         requires targets { AreBelow (length (symbol_names (seen db.now))) self.old.known.targets }
         ensures cause { (demangle : Bytes → Bytes) (w : Stage) → IsNextStage (platform_of P.Platform) demangle (seen db.now) self.old.known w
-            → (marks : List Bool) → IsLoaded w marks → TellsCause (loading_cause w marks) result }
+            → WereGroupsFine w → (marks : List Bool) → IsLoaded w marks → TellsCause (loading_cause w marks) result }
         ensures selection { OnOk result ((demangle : Bytes → Bytes) (w : Stage) → IsNextStage (platform_of P.Platform) demangle (seen db.now) self.old.known w
             → (marks : List Bool) → IsLoaded w marks → IsLoadedSelection (platform_of P.Platform) demangle (seen db.now) self.new.known (selection_of w marks)) }
-        ensures groups { OnOk result ((demangle : Bytes → Bytes) (w : Stage) → IsNextStage (platform_of P.Platform) demangle (seen db.now) self.old.known w
-            → (marks : List Bool) → IsLoaded w marks → AreGroupsOf marks w.objects self.new.groups) }
+        ensures groups { OnOk result (self.new.groups ≡ no_groups) }
         ensures flags { OnOk result ((demangle : Bytes → Bytes) (w : Stage) → IsNextStage (platform_of P.Platform) demangle (seen db.now) self.old.known w
             → (marks : List Bool) → IsLoaded w marks → numbers_of (words_of flags.old) ≡ each_from (flags_before w) 0 w.symbols
             → numbers_of (words_of flags.new) ≡ marked_flags (selection_of w marks)) }
@@ -330,15 +331,8 @@ impl Resolver {
         if db.num_regular_objects() == 0 {
             return Err(LinkError::NoInputs);
         }
-        let (found, groups) = loaded_with_groups(
-            rt,
-            alloc,
-            gate,
-            workers,
-            db,
-            &self.resolved,
-            flags,
-        )?;
+        let found = loaded_with_targets(rt, alloc, gate, workers, db, &self.resolved, flags)?;
+        check_groups(alloc, db.groups(), self.resolved.loaded(), &found.loaded)?;
         write_flags(&found.closed, db.num_symbols(), flags);
         let LoadedObjects {
             closed,
@@ -347,41 +341,45 @@ impl Resolver {
             requests,
         } = found;
         self.resolved = Resolved::new(loaded, targets, Vec::new(alloc));
-        self.groups = groups;
+        self.groups = LoadedGroups::none(alloc);
         self.closed = Some(closed);
         Ok(requests)
     }
 
-    /// Behind the last batch: each symbol points to what it stands for before rivals are settled, and it is known how strongly each symbol binds. What was loaded
-    /// by `load_batch` is then as `resolve_counted` leaves it. The only refusal is want of memory; then resolver and database are as before.
+    /// Behind the last batch: the section groups that are kept are chosen, each symbol points to what it stands for before rivals are settled, and it is known how
+    /// strongly each symbol binds. What was loaded by `load_batch` is then as `resolve_counted` leaves it.
+    ///
+    /// It is refused with `SectionInTwoGroups` where a loaded regular object lists a section as a member twice, which `load_batch` has refused before, and with
+    /// `Memory`. Then resolver and database are as before.
     pub fn point_references<P: Platform>(
         &mut self,
         alloc: Global,
         db: &mut SymbolDb<P>,
-    ) -> Result<(), AllocError>
+    ) -> Result<(), LinkError>
         requires listed { IsListed (seen db.old) }
         requires targets { AreBelow (length (symbol_names (seen db.old))) self.old.known.targets }
+        ensures cause { (demangle : Bytes → Bytes) (w : Stage) (marks : List Bool)
+            → IsLoadedSelection (platform_of P.Platform) demangle (seen db.old) self.old.known (selection_of w marks) → TellsCause (group_refusal (selection_of w marks)) result }
         ensures selection { OnOk result ((demangle : Bytes → Bytes) (w : Stage) (marks : List Bool)
-            → IsLoadedSelection (platform_of P.Platform) demangle (seen db.old) self.old.known (selection_of w marks) → AreGroupsOf marks w.objects self.old.groups
+            → IsLoadedSelection (platform_of P.Platform) demangle (seen db.old) self.old.known (selection_of w marks)
             → IsSelection (platform_of P.Platform) demangle (seen db.new) self.new.known (selection_of w marks)) }
+        ensures groups { OnOk result ((demangle : Bytes → Bytes) (w : Stage) (marks : List Bool)
+            → IsLoadedSelection (platform_of P.Platform) demangle (seen db.old) self.old.known (selection_of w marks) → AreGroupsOf marks w.objects self.new.groups) }
         ensures table { OnOk result ((demangle : Bytes → Bytes) (l : Selection) → IsLoadedSelection (platform_of P.Platform) demangle (seen db.old) self.old.known l
             → (seen db.new).table ≡ reference_table l) }
-        ensures resolver { self.new ≡ with_strengths self.new.known.strengths self.old }
+        ensures resolver { self.new ≡ with_groups self.new.groups self.new.known.strengths self.old }
         ensures rest { seen db.new ≡ record (seen db.old) { table = (seen db.new).table } }
         ensures whole { OnOk result (HasTable (seen db.new)) }
         ensures strengths { OnOk result (length self.new.known.strengths ≡ length (symbols_in (seen db.new).mapping.files.groups)) }
         ensures unchanged { OnErr result (self.new ≡ self.old) }
         ensures db_unchanged { OnErr result (seen db.new ≡ seen db.old) }
     {
-        let strengths = surviving_strengths(
-            alloc,
-            db.files(),
-            self.resolved.loaded(),
-            &self.groups,
-        )?;
+        let groups = LoadedGroups::select(alloc, db.groups(), self.resolved.loaded())?;
+        let strengths = surviving_strengths(alloc, db.files(), self.resolved.loaded(), &groups)?;
         let table = first_table(alloc, db, &self.resolved)?;
         db.restore_definitions(table);
         self.resolved.set_strengths(strengths);
+        self.groups = groups;
         Ok(())
     }
 

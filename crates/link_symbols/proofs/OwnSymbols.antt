@@ -156,6 +156,14 @@ objects-counted n s (f ∷ fs) = by_file (λ m t. objects-counted m t fs) f.file
     by_file later (stub_library input symbols) = later (n + 0) (s + length symbols)
     by_file later synthetic = later (n + 0) (s + 0)
 
+-- a file has its symbols as an object once, if it is one
+pub own-count : (n s : ℕ) (file : InputFile) → length (own_symbols n s file) ≡ object_count file
+own-count n s (prelude symbols) = refl
+own-count n s (object p) = refl
+own-count n s (linker_script script) = refl
+own-count n s (stub_library input symbols) = refl
+own-count n s synthetic = refl
+
 -- one file more
 pub objects-more : (items new all : List SymbolsLeft) (first next : ℕ) (files rest : List SequencedFile) (f : SequencedFile) → files ≡ f ∷ rest
     → new ≡ items ++ own_symbols (length items) first f.file → next ≡ first + symbol_count f.file
@@ -168,13 +176,6 @@ objects-more items new all first next files rest f is more on before =
     ∙ (ap (λ l. l ++ objects_from (length items + object_count f.file) (first + symbol_count f.file) (without_ids rest)) more
     ∙ (append_assoc items own (objects_from (length items + object_count f.file) (first + symbol_count f.file) (without_ids rest))
     ∙ (ap (λ (l : List SequencedFile). items ++ objects_from (length items) first (without_ids l)) (sym is) ∙ before))))
-  where
-    own-count : (n s : ℕ) (file : InputFile) → length (own_symbols n s file) ≡ object_count file
-    own-count n s (prelude symbols) = refl
-    own-count n s (object p) = refl
-    own-count n s (linker_script script) = refl
-    own-count n s (stub_library input symbols) = refl
-    own-count n s synthetic = refl
 
 -- the next symbol of a part, and those behind it
 pub part-next : (xs : List Symbol) (start next end left at : ℕ) (x : Symbol) → left ≡ end → 0 < end - start → at ≡ start → next ≡ start + 1 → slice_get xs at ≡ Some x

@@ -6,9 +6,9 @@ ghost use Rattle.link_files.specs.GroupFiles.{symbols_in};
 ghost use Rattle.link_symbols.specs.Walk.{GivesFirst};
 
 use crate::file_list::FileList;
-use crate::file_symbols::{FileSymbols, object_count};
+use crate::file_symbols::FileSymbols;
 use crate::view::SymbolView;
-use link_files::Files;
+use link_files::{Files, object_count};
 use link_ids::SymbolId;
 use link_input::Platform;
 use std::marker::Model;

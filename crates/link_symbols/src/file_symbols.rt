@@ -7,6 +7,7 @@ ghost use Rattle.link_input.specs.InputFiles.{object_count, symbol_count};
 ghost use Rattle.link_input.specs.Symbols.{file_symbols};
 
 use crate::view::{SymbolOrigin, SymbolView};
+use link_files::symbol_count;
 use link_groups::SequencedInput;
 use link_input::Platform;
 use std::marker::Model;
@@ -33,32 +34,6 @@ impl<'a, P: Platform> Model for FileSymbols<'a, P> {
     ghost view = { λ f. drop f.places.start (symbols_of_file f.objects f.file) };
 
     ghost invariant = { λ f. f.places.end ≡ length (symbols_of_file f.objects f.file) };
-}
-
-/// How many symbols stand in the table of a file.
-pub fn symbol_count<P: Platform>(file: &SequencedInput<P>) -> usize
-    ensures { result ≡ symbol_count (sequenced_file file.now).file }
-{
-    match file {
-        SequencedInput::Prelude(prelude) => prelude.num_symbols(),
-        SequencedInput::Object(object) => object.parsed.num_symbols(),
-        SequencedInput::LinkerScript(script) => script.parsed.num_symbols(),
-        SequencedInput::StubLibrary(stub) => stub.defined_symbols.len(),
-        SequencedInput::SyntheticSymbols(_) => 0,
-    }
-}
-
-/// How many objects a file is.
-pub fn object_count<P: Platform>(file: &SequencedInput<P>) -> usize
-    ensures { result ≡ object_count (sequenced_file file.now).file }
-{
-    match file {
-        SequencedInput::Object(_) => 1,
-        SequencedInput::Prelude(_)
-        | SequencedInput::LinkerScript(_)
-        | SequencedInput::StubLibrary(_)
-        | SequencedInput::SyntheticSymbols(_) => 0,
-    }
 }
 
 /// The symbol at a place of a file, before which there are so many objects.

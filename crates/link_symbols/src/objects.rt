@@ -9,7 +9,6 @@ ghost use Rattle.link_symbols.specs.Walk.{GivesFirst, SymbolsLeft, own_symbols, 
 ghost use Rattle.std.specs.Iterator.{item_count};
 
 use crate::file_list::FileList;
-use crate::file_symbols::symbol_count;
 use crate::view::{SymbolOrigin, SymbolView};
 use link_files::Files;
 use link_groups::SequencedInput;
@@ -113,13 +112,15 @@ impl<'a, P: Platform> Iterator for PartSymbols<'a, P> {
     }
 }
 
-/// Adds the symbols of a file, if it is an object, before which there are so many symbols.
+/// Adds the symbols of a file, if it is an object, before which there are so many symbols. It has so many itself.
 fn push_object<'a, P: Platform>(
     objects: &mut Vec<ObjectSymbols<'a, P>>,
     file: &SequencedInput<'a, P>,
     first: usize,
+    count: usize,
 ) -> Result<(), AllocError>
-    requires { first + symbol_count (sequenced_file file.now).file ≤ 2 ^ 32 }
+    requires count { count ≡ symbol_count (sequenced_file file.now).file }
+    requires ids { first + count ≤ 2 ^ 32 }
     ensures { OnOk result (objects.new.items ≡ objects.old.items ++ own_symbols (length objects.old.items) first (sequenced_file file.now).file) }
 {
     if let SequencedInput::Object(object) = file {
@@ -128,7 +129,7 @@ fn push_object<'a, P: Platform>(
             parsed: &object.parsed,
             place,
             first,
-            count: object.parsed.num_symbols(),
+            count,
         })?;
     }
     Ok(())
@@ -147,10 +148,15 @@ pub fn object_symbols<P: Platform>(
     // So ids name all of them.
     prove!(files.num_symbols() < 1 << 32);
     let mut objects = Vec::with_capacity(alloc, files.num_objects())?;
+    let outlines = files.outlines();
     let mut first = 0;
+    let mut place = 0usize;
     for file in FileList::new(files.groups()) {
-        push_object(&mut objects, &file, first)?;
-        first += symbol_count(&file);
+        // The outline tells how many there are, so that the object itself is left alone.
+        let count = outlines[place].symbols;
+        push_object(&mut objects, &file, first, count)?;
+        first += count;
+        place += 1;
     }
     Ok(objects)
 }

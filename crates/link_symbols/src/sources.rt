@@ -1,16 +1,14 @@
 //! Where each symbol stands.
 
 ghost use Rattle.std.specs.Prelude.{◌≡◌, ◌++◌, IfOk, OnOk};
-ghost use Rattle.link_files.specs.GroupFiles.{symbols_in};
-ghost use Rattle.link_groups.specs.SequencedInputs.{sequenced_file};
+ghost use Rattle.link_input.specs.InputFiles.{InputFile};
 ghost use Rattle.link_input.specs.Symbols.{file_symbols};
-ghost use Rattle.link_symbols.specs.Sources.{file_source, object_place, source_of, sources_of};
+ghost use Rattle.link_files.specs.GroupFiles.{symbols_in};
+ghost use Rattle.link_files.specs.Outlines.{outline_of};
+ghost use Rattle.link_symbols.specs.Sources.{file_source, source_of, sources_of};
 
-use crate::file_list::FileList;
-use crate::file_symbols::{object_count, symbol_count};
 use crate::view::SymbolView;
-use link_files::Files;
-use link_groups::SequencedInput;
+use link_files::{FileOutline, Files};
 use link_input::Platform;
 use std::alloc::{AllocError, Global};
 
@@ -33,39 +31,30 @@ pub fn source_of(symbol: &SymbolView) -> SymbolSource
     }
 }
 
-/// The place of the object that a file is, if it is one, before which there are so many.
-fn object_place<P: Platform>(file: &SequencedInput<P>, objects: usize) -> Option<usize>
-    ensures { result ≡ object_place objects (sequenced_file file.now).file }
-{
-    match file {
-        SequencedInput::Object(_) => Some(objects),
-        SequencedInput::Prelude(_)
-        | SequencedInput::LinkerScript(_)
-        | SequencedInput::StubLibrary(_)
-        | SequencedInput::SyntheticSymbols(_) => None,
-    }
-}
-
-/// Where the symbols of a file stand, before which there are so many objects: all of them at one place.
-fn file_source<P: Platform>(file: &SequencedInput<P>, objects: usize) -> SymbolSource
-    ensures { result ≡ file_source objects (sequenced_file file.now).file }
+/// Where the symbols of a file of this outline stand, before which there are so many objects: all of them at one place.
+fn file_source(outline: &FileOutline, objects: usize) -> SymbolSource
+    ensures { (f : InputFile) → outline.now ≡ outline_of f → result ≡ file_source objects f }
 {
     SymbolSource {
-        object: object_place(file, objects),
-        is_shared: file.is_dynamic(),
+        object: if outline.is_object {
+            Some(objects)
+        } else {
+            None
+        },
+        is_shared: outline.is_shared,
     }
 }
 
-/// Adds where the symbols of a file stand, before which there are so many objects.
-fn push_sources<P: Platform>(
+/// Adds where the symbols of a file of this outline stand, before which there are so many objects.
+fn push_sources(
     sources: &mut Vec<SymbolSource>,
-    file: &SequencedInput<P>,
+    outline: &FileOutline,
     objects: usize,
 ) -> Result<(), AllocError>
-    ensures { OnOk result (sources.new.items ≡ sources.old.items ++ sources_of (file_symbols objects (sequenced_file file.now).file)) }
+    ensures { OnOk result ((f : InputFile) → outline.now ≡ outline_of f → sources.new.items ≡ sources.old.items ++ sources_of (file_symbols objects f)) }
 {
-    let source = file_source(file, objects);
-    for _ in 0..symbol_count(file) {
+    let source = file_source(outline, objects);
+    for _ in 0..outline.symbols {
         sources.push(source)?;
     }
     Ok(())
@@ -82,9 +71,10 @@ pub fn symbol_sources<P: Platform>(
     prove!(files.num_objects() <= usize::MAX);
     let mut sources = Vec::with_capacity(alloc, files.num_symbols())?;
     let mut objects = 0;
-    for file in FileList::new(files.groups()) {
-        push_sources(&mut sources, &file, objects)?;
-        objects += object_count(&file);
+    let outlines = files.outlines();
+    for outline in outlines {
+        push_sources(&mut sources, outline, objects)?;
+        objects += outline.num_objects();
     }
     Ok(sources)
 }

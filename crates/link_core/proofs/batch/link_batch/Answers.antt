@@ -14,7 +14,7 @@ use Rattle.link_db.specs.Seen.{seen}
 use Rattle.link_resolve.specs.Resolving.{loading_cause}
 use Rattle.link_core.specs.Steps.{inputs_refusal}
 use Rattle.link_core.proofs.Batches.{links-inputs, links-loading}
-use Rattle.link_core.proofs.Passing.{below-more, ended-by, held-next, next-stage, refused-through}
+use Rattle.link_core.proofs.Passing.{below-more, ended-by, fine-grows, held-next, next-stage, refused-through}
 use Rattle.link_core.proofs.batch.link_batch.Goals as goal
 
 -- what is known is of objects that are there
@@ -48,7 +48,7 @@ returns-in_err-load_batch-clause-refused g c =
     let none = c.in_ok-add_files.ensures.cause w done before c.args.resolver.now.known is ready in
     let next = next-stage platform demangle w done b before (seen c.args.db.now) (seen c.add_files.new.db) (numbers_of (words_of c.args.flags.now)) (numbers_of (words_of c.add_files.new.flags))
     c.args.resolver.now.known is ready added in
-    let told : TellsCause {A = Unit {0}} (loading_cause s loaded.0) (Err e) = c.in_err-load_batch.ensures.cause demangle s next loaded.0 loaded.1 in
+    let told : TellsCause {A = Unit {0}} (loading_cause s loaded.0) (Err e) = c.in_err-load_batch.ensures.cause demangle s next (fine-grows before b is.orderly is.fine) loaded.0 loaded.1 in
     ended-by (Unit {0}) w (loading_cause s loaded.0) e (λ cause. is.ends (Err e) (links-loading (not (is_empty done)) before b (λ l. ◌≡◌ {A = End} (Err e) (Ok l)) loaded.0 e none loaded.1 cause)) told)
 
 -- all batches are held
@@ -66,7 +66,7 @@ returns-clause-loaded g c = λ w done before is ready.
     let e = c.in_ok-load_batch.ensures in (
       selection_of s loaded.0,
       held-next platform demangle w done b before (seen c.add_files.new.db) read (numbers_of (words_of c.load_batch.new.flags)) c.load_batch.new.self loaded.0 is added none loaded.1
-          (e.cause demangle s next loaded.0 loaded.1) (e.selection demangle s next loaded.0 loaded.1) (e.groups demangle s next loaded.0 loaded.1)
+          (e.cause demangle s next (fine-grows before b is.orderly is.fine) loaded.0 loaded.1) (e.selection demangle s next loaded.0 loaded.1)
           (e.flags demangle s next loaded.0 loaded.1 added.flags),
     )
 

@@ -30,4 +30,4 @@ pub returns-in_err-sections-clause-refused : goal.returns-in_err-sections-clause
 returns-in_err-sections-clause-refused g c = refused-through c.from_residual-in_err-sections.result _ Memory c.from_residual-in_err-sections.ensures.1 (λ w l loaded. inr refl)
 
 pub returns-in_err-point_symbols-clause-refused : goal.returns-in_err-point_symbols-clause-refused
-returns-in_err-point_symbols-clause-refused g c = refused-through c.from_residual.result _ c.in_err-point_symbols.field-0.0 c.from_residual.ensures.1 (λ w l loaded. inr c.in_err-point_symbols.ensures.refused)
+returns-in_err-point_symbols-clause-refused g c = refused-through c.from_residual.result _ c.in_err-point_symbols.field-0.0 c.from_residual.ensures.1 (λ w l loaded. inr (c.in_err-point_symbols.ensures.refused (g.D.Demangler.demangled c.args.demangler.now) w l loaded))

@@ -5,7 +5,7 @@ use Rattle.std.proofs.lemmas.Grind.{common_steps}
 use Rattle.link_closure.specs.Closure.{is_marked}
 use Rattle.link_input.specs.ObjectFile.{ObjectFile}
 use Rattle.link_input.specs.Symbols.{Symbol}
-use Rattle.link_groups.specs.declared.group.Group.{Group}
+use Rattle.link_files.specs.HeldFiles.{HeldFiles}
 use Rattle.link_files.specs.Inputs.{objects_in}
 use Rattle.link_loader.specs.Holds.{platform_of}
 use Rattle.link_rules.specs.Loading.{holds_name, root_names}
@@ -22,7 +22,7 @@ returns-clause-each g c =
     let earlier = c.args.loaded_before.now in
     let marks = c.mark_holders.new.marks in
     let kept : c.in_ok-roots.roots.items ≡ kept_marks earlier (objects_in (seen c.args.db.now).mapping.files.groups) =
-    c.in_ok-roots.ensures ∙ ap (λ (gs : List (Group g.row.P.Denot)). kept_marks earlier (objects_in gs)) c.groups.ensures in
+    c.in_ok-roots.ensures ∙ ap (λ (h : HeldFiles g.row.P.Denot). kept_marks earlier (objects_in h.groups)) c.files.ensures in
     let same : take c.in_ok-roots.roots.len (marks ++ drop (length marks) c.in_ok-roots.roots.items) ≡ marks = grind (arith, common_steps, c.mark_holders.auto.marks) in
     let count : length marks ≡ length c.in_ok-roots.roots.items = grind (arith, common_steps, c.mark_holders.auto.marks) in
     ap (λ (l : List Bool). length l) same
@@ -37,7 +37,7 @@ returns-clause-roots g c = λ demangle w at loaded f.
     let sources : c.args.sources.now ≡ sources_of w.symbols = c.requires.sources ∙ ap (λ (symbols : List Symbol). sources_of symbols) (sym at.symbols) in
     let kept : old ≡ kept_marks w.earlier.loaded w.objects =
     c.deref_mut.ensures.value ∙ (c.in_ok-roots.ensures
-    ∙ (ap (λ (gs : List (Group g.row.P.Denot)). kept_marks earlier (objects_in gs)) c.groups.ensures
+    ∙ (ap (λ (h : HeldFiles g.row.P.Denot). kept_marks earlier (objects_in h.groups)) c.files.ensures
     ∙ (ap (λ (l : List Bool). kept_marks l (objects_in groups)) (sym loaded) ∙ ap (λ (objects : List ObjectFile). kept_marks w.earlier.loaded objects) (sym at.objects)))) in
     let few : length w.earlier.loaded ≤ length w.objects =
     omega (arith, c.requires.loaded, ap (λ (l : List Bool). length l) loaded, ap (λ (objects : List ObjectFile). length objects) at.objects) in

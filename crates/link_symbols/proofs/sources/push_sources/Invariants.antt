@@ -3,4 +3,4 @@ use Rattle.std.specs.Prelude.{replicate}
 use Rattle.link_symbols.proofs.sources.push_sources.Given as goal
 
 abbrev pub invariant-loop : goal.invariant-loop
-invariant-loop g l = l.sources.items ≡ l.fn.sources.items ++ replicate l.counter l.source
+invariant-loop l = l.sources.items ≡ l.fn.sources.items ++ replicate l.counter l.source

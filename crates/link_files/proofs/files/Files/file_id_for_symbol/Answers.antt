@@ -11,13 +11,13 @@ use Rattle.link_files.proofs.files.Files.file_id_for_symbol.Goals as goal
 pub place_of-requires-clause-first : goal.place_of-requires-clause-first
 place_of-requires-clause-first g c =
     let starts = c.self.inside.starts.items in
-    let found : AreHeld c.args.self.now starts = subst (λ (held : HeldFiles g.row.P.Denot). AreHeld held starts) c.self.view_is c.self.invariant in
+    let found : AreHeld c.args.self.now starts = subst (λ (held : HeldFiles g.row.P.Denot). AreHeld held starts) c.self.view_is c.self.invariant.0 in
     subst (λ (l : List FileStart). IfSome (slice_get l 0) (λ first. first.start ≤ c.args.id)) (sym c.as_slice.ensures.value) (begins-there starts c.args.id (first-start c.args.self.now starts found c.args.id c.requires).1)
 
 pub place_of-requires-clause-some : goal.place_of-requires-clause-some
 place_of-requires-clause-some g c =
     let starts = c.self.inside.starts.items in
-    let found : AreHeld c.args.self.now starts = subst (λ (held : HeldFiles g.row.P.Denot). AreHeld held starts) c.self.view_is c.self.invariant in
+    let found : AreHeld c.args.self.now starts = subst (λ (held : HeldFiles g.row.P.Denot). AreHeld held starts) c.self.view_is c.self.invariant.0 in
     subst (λ (l : List FileStart). 0 < length l) (sym c.as_slice.ensures.value) (first-start c.args.self.now starts found c.args.id c.requires).0
 
 pub index-requires : goal.index-requires
@@ -26,7 +26,7 @@ index-requires g c = omega (arith, slice_get_within c.as_slice.result.now c.plac
 pub returns-clause-file : goal.returns-clause-file
 returns-clause-file g c =
     let starts = c.self.inside.starts.items in
-    let found : AreHeld c.args.self.now starts = subst (λ (held : HeldFiles g.row.P.Denot). AreHeld held starts) c.self.view_is c.self.invariant in
+    let found : AreHeld c.args.self.now starts = subst (λ (held : HeldFiles g.row.P.Denot). AreHeld held starts) c.self.view_is c.self.invariant.0 in
     let last : IsLastFrom starts c.args.id c.place_of.result = subst (λ (l : List FileStart). IsLastFrom l c.args.id c.place_of.result) c.as_slice.ensures.value c.place_of.ensures in
     let within = slice_get_within starts c.place_of.result last.file last.here in
     (found-file c.args.self.now starts found c.args.id c.place_of.result last c.requires c.index.result.now
@@ -35,7 +35,7 @@ returns-clause-file g c =
 pub returns-clause-object : goal.returns-clause-object
 returns-clause-object g c =
     let starts = c.self.inside.starts.items in
-    let found : AreHeld c.args.self.now starts = subst (λ (held : HeldFiles g.row.P.Denot). AreHeld held starts) c.self.view_is c.self.invariant in
+    let found : AreHeld c.args.self.now starts = subst (λ (held : HeldFiles g.row.P.Denot). AreHeld held starts) c.self.view_is c.self.invariant.0 in
     let last : IsLastFrom starts c.args.id c.place_of.result = subst (λ (l : List FileStart). IsLastFrom l c.args.id c.place_of.result) c.as_slice.ensures.value c.place_of.ensures in
     let within = slice_get_within starts c.place_of.result last.file last.here in
     (found-file c.args.self.now starts found c.args.id c.place_of.result last c.requires c.index.result.now

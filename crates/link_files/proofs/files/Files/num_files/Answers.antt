@@ -9,5 +9,5 @@ use Rattle.link_files.proofs.files.Files.num_files.Goals as goal
 pub returns : goal.returns
 returns g c =
     let fields = c.self.inside in
-    c.len.ensures ∙ fields.starts.ok.0 ∙ ap (λ (l : List FileStart). length l) c.self.invariant.found ∙ length-all-starts fields.groups.items
+    c.len.ensures ∙ fields.starts.ok.0 ∙ ap (λ (l : List FileStart). length l) c.self.invariant.0.found ∙ length-all-starts fields.groups.items
     ∙ ap (λ (held : HeldFiles g.row.P.Denot). length (flat_map files_of held.groups)) c.self.view_is

@@ -12,21 +12,21 @@ use Rattle.link_files.proofs.files.Files.num_symbols.Goals as goal
 pub returns-then-files-eq0 : goal.returns-then-files-eq0
 returns-then-files-eq0 g c =
     let starts = c.self.inside.starts.items in
-    let found : AreHeld c.args.self.now starts = subst (λ (held : HeldFiles g.row.P.Denot). AreHeld held starts) c.self.view_is c.self.invariant in
+    let found : AreHeld c.args.self.now starts = subst (λ (held : HeldFiles g.row.P.Denot). AreHeld held starts) c.self.view_is c.self.invariant.0 in
     let none = none-held c.args.self.now starts found (sym c.self.inside.starts.ok.0 ∙ sym c.len-files.ensures ∙ c.if-files-eq0.true) in
     record { value = none; tabled = all-tabled c.args.self.now starts found 0 none; fits = omega arith }
 
 pub file-requires : goal.file-requires
 file-requires g c =
     let starts = c.self.inside.starts.items in
-    let found : AreHeld c.args.self.now starts = subst (λ (held : HeldFiles g.row.P.Denot). AreHeld held starts) c.self.view_is c.self.invariant in
+    let found : AreHeld c.args.self.now starts = subst (λ (held : HeldFiles g.row.P.Denot). AreHeld held starts) c.self.view_is c.self.invariant.0 in
     let e = last-read c.args.self.now starts found c.len-files.result c.index-last.result.now (c.len-files.ensures ∙ c.self.inside.starts.ok.0) c.if-files-eq0.false c.index-last.ensures in
     rw e.1.0 refl
 
 pub returns : goal.returns
 returns g c =
     let starts = c.self.inside.starts.items in
-    let found : AreHeld c.args.self.now starts = subst (λ (held : HeldFiles g.row.P.Denot). AreHeld held starts) c.self.view_is c.self.invariant in
+    let found : AreHeld c.args.self.now starts = subst (λ (held : HeldFiles g.row.P.Denot). AreHeld held starts) c.self.view_is c.self.invariant.0 in
     let e = last-read c.args.self.now starts found c.len-files.result c.index-last.result.now (c.len-files.ensures ∙ c.self.inside.starts.ok.0) c.if-files-eq0.false c.index-last.ensures in
     let same : e.0 ≡ sequenced_file c.file.result = same_Some e.0 (sequenced_file c.file.result) (sym e.1.0 ∙ c.file.ensures.value) in
     let ids = c.symbol_id_range-ids.ensures in

@@ -1,8 +1,11 @@
-use Rattle.std.proofs.Common.{◌≡◌, length, subst, sym, take}
+use Rattle.std.proofs.Common.{◌≡◌, ◌∙◌, List, ap, length, subst, sym, take}
 use Rattle.std.specs.List.{flat_map}
+use Rattle.link_groups.specs.declared.group.Group.{Group}
 use Rattle.link_groups.specs.Groups.{files_of}
 use Rattle.link_files.specs.GroupFiles.{AreGroupsOfLink}
 use Rattle.link_files.specs.HeldFiles.{HeldFiles}
+use Rattle.link_files.specs.Outlines.{outlines_of}
+use Rattle.link_files.proofs.Outlined.{outlines-first}
 use Rattle.link_files.proofs.Prefix.{held-so-many}
 use Rattle.link_files.proofs.files.Files.remove_groups.Goals as goal
 
@@ -13,4 +16,7 @@ invariant_of-self g c =
     let link : AreGroupsOfLink held.groups = subst (λ (h : HeldFiles g.row.P.Denot). AreGroupsOfLink h.groups) (sym c.self.view_is) c.requires.link in
     let count : c.args.files ≡ length (flat_map files_of (take c.args.groups held.groups)) =
     subst (λ (h : HeldFiles g.row.P.Denot). c.args.files ≡ length (flat_map files_of (take c.args.groups h.groups))) (sym c.self.view_is) c.requires.files in
-    rw (c.truncate.ensures.items, c.truncate-2.ensures.items) (held-so-many held fields.starts.items c.args.groups c.args.files c.self.invariant link count)
+    let first = ap (take c.args.files) c.self.invariant.1 ∙ outlines-first held.groups c.args.groups c.args.files count in (
+      rw (c.truncate.ensures.items, c.truncate-2.ensures.items) (held-so-many held fields.starts.items c.args.groups c.args.files c.self.invariant.0 link count),
+      c.truncate-3.ensures.items ∙ (first ∙ sym (ap (λ (gs : List (Group g.row.P.Denot)). outlines_of gs) c.truncate.ensures.items)),
+    )

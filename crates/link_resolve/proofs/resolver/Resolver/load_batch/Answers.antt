@@ -1,11 +1,16 @@
-use Rattle.std.proofs.Common.{◌∙◌, Bool, Err, List, ap, arith, length, sym}
+use Rattle.std.proofs.Common.{◌≡◌, ◌∙◌, Bool, Err, List, None, ap, arith, length, subst, sym}
+use Rattle.std.specs.List.{filter_map}
+use Rattle.link_files.specs.Inputs.{objects_in}
+use Rattle.link_groups.specs.declared.group.Group.{Group}
+use Rattle.link_rules.specs.Comdat.{loaded_regular}
+use Rattle.link_rules.specs.Places.{first_of}
 use Rattle.link_work.specs.Requests.{requests_of}
 use Rattle.link_claim.specs.Seats.{claimed_in}
 use Rattle.link_closure.specs.declared.workload.Workload.{Workload}
 use Rattle.link_flags.specs.FlagWords.{numbers_of, words_of}
 use Rattle.link_loader.specs.Causes.{TellsCause}
 use Rattle.link_loader.specs.Holds.{platform_of}
-use Rattle.link_rules.specs.Refusals.{empty_refusal, group_refusal}
+use Rattle.link_rules.specs.Refusals.{empty_refusal, group_cause, group_refusal}
 use Rattle.link_rules.specs.Marking.{marked_flags}
 use Rattle.link_rules.specs.Selection.{selection_of}
 use Rattle.link_rules.specs.Work.{workload_of}
@@ -18,22 +23,30 @@ use Rattle.link_resolve.specs.Known.{Known}
 use Rattle.link_resolve.proofs.Loaded.{all-named, is-loaded-selection, not-empty, opened}
 use Rattle.link_resolve.proofs.resolver.Resolver.load_batch.Goals as goal
 
--- the groups of a loaded object
-pub returns-in_err-found-clause-cause : goal.returns-in_err-found-clause-cause
-returns-in_err-found-clause-cause g c = λ demangle w at marks loaded.
+-- a section of a newly loaded object that is a member twice
+pub returns-in_err-check_groups-clause-cause : goal.returns-in_err-check_groups-clause-cause
+returns-in_err-check_groups-clause-cause g c = λ demangle w at fine marks loaded.
     let is = opened c.self.view_is at in
-    let e = c.in_err-found.field-0.0 in
-    let told : TellsCause {A = Unit {0}} (group_refusal (selection_of w marks)) (Err e) = c.in_err-found.ensures.cause demangle w is marks loaded in
-    tells-through _ _ e c.from_residual.result c.from_residual.ensures.0 c.from_residual.ensures.1
+    let objects = is.stage.objects ∙ ap (λ (gs : List (Group g.row.P.Denot)). objects_in gs) (sym c.groups.ensures) in
+    let same : c.deref.result.now ≡ marks = c.deref.ensures.value ∙ one-loaded w _ marks (c.in_ok-found.ensures.loaded demangle w is) loaded in
+    let earlier = is.loaded ∙ sym c.loaded.ensures in
+    let e = c.in_err-check_groups.field-0.0 in
+    let told : TellsCause {A = Unit {0}} (group_refusal (selection_of w marks)) (Err e) =
+    subst (λ (ms : List Bool). TellsCause {A = Unit {0}} (first_of (filter_map group_cause (loaded_regular w ms))) (Err e)) same (c.in_err-check_groups.ensures.cause w objects earlier fine) in
+    tells-through _ _ e c.from_residual-in_err-check_groups.result c.from_residual-in_err-check_groups.ensures.0 c.from_residual-in_err-check_groups.ensures.1
     (tells-other (Unit {0}) (Unit {0}) (empty_refusal w) (group_refusal (selection_of w marks)) e
     (not-empty w c.num_regular_objects.result (c.num_regular_objects.ensures ∙ ap length (sym is.stage.objects)) (omega (arith, c.if-num_regular_objects-eq0.false))) told)
 
 -- neither cause
 pub returns-clause-cause : goal.returns-clause-cause
-returns-clause-cause g c = λ demangle w at marks loaded.
+returns-clause-cause g c = λ demangle w at fine marks loaded.
     let is = opened c.self.view_is at in
+    let objects = is.stage.objects ∙ ap (λ (gs : List (Group g.row.P.Denot)). objects_in gs) (sym c.groups.ensures) in
+    let same : c.deref.result.now ≡ marks = c.deref.ensures.value ∙ one-loaded w _ marks (c.in_ok-found.ensures.loaded demangle w is) loaded in
+    let earlier = is.loaded ∙ sym c.loaded.ensures in
     neither (empty_refusal w) (group_refusal (selection_of w marks))
-    (not-empty w c.num_regular_objects.result (c.num_regular_objects.ensures ∙ ap length (sym is.stage.objects)) (omega (arith, c.if-num_regular_objects-eq0.false))) (c.in_ok-found.ensures.cause demangle w is marks loaded)
+    (not-empty w c.num_regular_objects.result (c.num_regular_objects.ensures ∙ ap length (sym is.stage.objects)) (omega (arith, c.if-num_regular_objects-eq0.false)))
+    (subst (λ (ms : List Bool). first_of (filter_map group_cause (loaded_regular w ms)) ≡ None) same (c.in_ok-check_groups.ensures.cause w objects earlier fine))
 
 pub returns-clause-selection : goal.returns-clause-selection
 returns-clause-selection g c = λ demangle w at marks loaded.
@@ -41,11 +54,6 @@ returns-clause-selection g c = λ demangle w at marks loaded.
     let found = c.in_ok-found.found in
     is-loaded-selection (platform_of g.P.Platform) demangle (seen c.args.db.now) w marks found.loaded.items found.targets.items c.new.result.items _ is.stage
     (c.in_ok-found.ensures.loaded demangle w is) loaded (c.in_ok-found.ensures.targets demangle w is) c.new-2.ensures
-
-pub returns-clause-groups : goal.returns-clause-groups
-returns-clause-groups g c = λ demangle w at marks loaded.
-    let is = opened c.self.view_is at in
-    c.in_ok-found.ensures.groups demangle w is marks loaded
 
 -- the flags are the words' own
 pub returns-clause-flags : goal.returns-clause-flags

@@ -1,0 +1,24 @@
+-- What passes over all files ask of each.
+use Rattle.std.specs.Prelude.{◌==◌, List, map}
+use Rattle.std.specs.List.{flat_map}
+use Rattle.link_input.specs.InputFiles.{InputFile, is_optional_file, is_shared_file, object_count, symbol_count}
+use Rattle.link_groups.specs.declared.group.Group.{Group}
+use Rattle.link_groups.specs.Groups.{files_of}
+use Rattle.link_files.specs.declared.outlines.FileOutline.{FileOutline}
+
+-- how many symbols stand in its table, whether it is an object, whether it is shared, and whether it is linked only where it is asked for
+abbrev pub outline_of : InputFile → FileOutline
+outline_of f = record {
+  symbols = symbol_count f;
+  is_object = object_count f == 1;
+  is_shared = is_shared_file f;
+  is_optional = is_optional_file f;
+}
+
+-- the outlines of the files of a group, in order
+abbrev pub group_outlines : {P : Type 0} → Group P → List FileOutline
+group_outlines g = map (λ f. outline_of f.file) (files_of g)
+
+-- those of the files of groups, in order
+abbrev pub outlines_of : {P : Type 0} → List (Group P) → List FileOutline
+outlines_of groups = flat_map group_outlines groups

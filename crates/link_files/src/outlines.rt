@@ -1,0 +1,109 @@
+//! What passes over all files ask of each.
+
+ghost use Rattle.std.specs.Prelude.{◌≡◌, ◌++◌, IfOk, OnOk};
+ghost use Rattle.link_files.specs.Outlines.{group_outlines, outline_of, outlines_of};
+ghost use Rattle.link_groups.specs.SequencedInputs.{sequenced_file};
+ghost use Rattle.link_input.specs.InputFiles.{InputFile, object_count, symbol_count};
+
+use link_groups::{Group, SequencedInput};
+use link_input::Platform;
+use std::alloc::{AllocError, Global};
+
+/// What passes over all files ask of each: outlines stand side by side in memory, so that such a pass leaves the files alone.
+#[derive(Clone, Copy, Debug, PartialEq, Eq)]
+pub struct FileOutline {
+    /// How many symbols stand in its table.
+    pub symbols: usize,
+    /// It is an object, a regular or a shared one.
+    pub is_object: bool,
+    /// Its symbols are found at run time: it is a shared object, or the stub of one.
+    pub is_shared: bool,
+    /// It is linked only where it is asked for.
+    pub is_optional: bool,
+}
+
+impl FileOutline {
+    /// How many objects a file of this outline is.
+    pub fn num_objects(&self) -> usize
+        ensures { (f : InputFile) → self.now ≡ outline_of f → result ≡ object_count f }
+    {
+        if self.is_object { 1 } else { 0 }
+    }
+}
+
+/// How many symbols stand in the table of a file.
+pub fn symbol_count<P: Platform>(file: &SequencedInput<P>) -> usize
+    ensures { result ≡ symbol_count (sequenced_file file.now).file }
+{
+    match file {
+        SequencedInput::Prelude(prelude) => prelude.num_symbols(),
+        SequencedInput::Object(object) => object.parsed.num_symbols(),
+        SequencedInput::LinkerScript(script) => script.parsed.num_symbols(),
+        SequencedInput::StubLibrary(stub) => stub.defined_symbols.len(),
+        SequencedInput::SyntheticSymbols(_) => 0,
+    }
+}
+
+/// How many objects a file is.
+pub fn object_count<P: Platform>(file: &SequencedInput<P>) -> usize
+    ensures { result ≡ object_count (sequenced_file file.now).file }
+{
+    match file {
+        SequencedInput::Object(_) => 1,
+        SequencedInput::Prelude(_)
+        | SequencedInput::LinkerScript(_)
+        | SequencedInput::StubLibrary(_)
+        | SequencedInput::SyntheticSymbols(_) => 0,
+    }
+}
+
+/// The outline of a file.
+fn outline_of<P: Platform>(file: &SequencedInput<P>) -> FileOutline
+    ensures { result ≡ outline_of (sequenced_file file.now).file }
+{
+    FileOutline {
+        symbols: symbol_count(file),
+        is_object: object_count(file) == 1,
+        is_shared: file.is_dynamic(),
+        is_optional: file.is_optional(),
+    }
+}
+
+/// Adds those of the files of a group.
+fn push_outlines<P: Platform>(
+    outlines: &mut Vec<FileOutline>,
+    group: &Group<P>,
+) -> Result<(), AllocError>
+    ensures { OnOk result (outlines.new.items ≡ outlines.old.items ++ group_outlines group.now) }
+{
+    for place in 0..group.num_files() {
+        outlines.push(outline_of(&group.file(place)))?;
+    }
+    Ok(())
+}
+
+/// Those of the files of one group.
+pub(crate) fn group_outlines<P: Platform>(
+    alloc: Global,
+    group: &Group<P>,
+) -> Result<Vec<FileOutline>, AllocError>
+    ensures { IfOk result (λ outlines. outlines.items ≡ group_outlines group.now) }
+{
+    let mut outlines = Vec::new(alloc);
+    push_outlines(&mut outlines, group)?;
+    Ok(outlines)
+}
+
+/// Those of the files of groups.
+pub(crate) fn outlines_of<P: Platform>(
+    alloc: Global,
+    groups: &[Group<P>],
+) -> Result<Vec<FileOutline>, AllocError>
+    ensures { IfOk result (λ outlines. outlines.items ≡ outlines_of groups.now) }
+{
+    let mut outlines = Vec::new(alloc);
+    for group in groups {
+        push_outlines(&mut outlines, group)?;
+    }
+    Ok(outlines)
+}
