@@ -25,7 +25,8 @@ pub(crate) struct OpenLink<P: Platform> {
     pub(crate) resolver: Resolver,
 }
 
-/// A link with these options and texts, and no batch.
+/// A link with these options and texts, and no batch. It stands apart, so that what reading texts takes of the stack is given back before batches come.
+#[inline(never)]
 pub(crate) fn open_link<P: Platform>(
     alloc: Global,
     options: Options,

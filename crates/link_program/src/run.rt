@@ -207,7 +207,8 @@ fn in_one_list<P: Platform>(
     Ok(batches)
 }
 
-/// The answer to a link of this world.
+/// The answer to a link of this world. It stands apart: within `answer_to_manifest`, once for each platform, it would take as much of the stack again.
+#[inline(never)]
 fn answer_to_world<R: Threads + Sync, P: Platform + Sync>(
     rt: &R,
     alloc: Global,
