@@ -4,6 +4,7 @@ pub mod Search
 pub mod Hashes
 pub mod Changes
 pub mod Rounds
+pub mod Unmapped
 pub mod Growing
 pub mod Walking
 pub mod Returning

@@ -33,7 +33,7 @@ fails true never = absurd (never refl)
 fails false never = refl
 
 -- no place is found where no head passes
-no_place : (p : Head → Bool) (heads : List Head) (at : ℕ) → ((k : ℕ) (h : Head) → slice_get heads k ≡ Some h → p h ≡ false) → None ≡ place_from p at heads
+pub no_place : (p : Head → Bool) (heads : List Head) (at : ℕ) → ((k : ℕ) (h : Head) → slice_get heads k ≡ Some h → p h ≡ false) → None ≡ place_from p at heads
 no_place p [] at never = refl
 no_place p (h ∷ heads) at never = rw (never 0 h refl) (no_place p heads (at + 1) (λ k g is. never (suc k) g is))
 
@@ -108,9 +108,13 @@ walk_step p heads count n place last only walked failed is = record {
     here : (i : ℕ) (h : Head) → i ≡ place → slice_get heads i ≡ Some h → p h ≡ false
     here i h e at = let there : slice_get heads place ≡ Some h = ap (slice_get heads) (sym e) ∙ at in ap (λ (o : Option Head). option_map_or p o false) (sym there) ∙ failed
 
+-- where a walk ends, no head passes
+pub walk_failed : (p : Head → Bool) (heads : List Head) (count slot last : ℕ) → IsWalked p heads count slot last → last ≡ 0 → (k : ℕ) (h : Head) → slice_get heads k ≡ Some h → p h ≡ false
+walk_failed p heads count slot last walked e k h is = let le : last ≤ k = omega (arith, e) in walked.tried k h is le
+
 -- a walk that ends found nothing
 pub walk_end : (p : Head → Bool) (heads : List Head) (count slot last : ℕ) → IsWalked p heads count slot last → last ≡ 0 → None ≡ place_from p 0 heads
-walk_end p heads count slot last walked e = no_place p heads 0 (λ k h is. let le : last ≤ k = omega (arith, e) in walked.tried k h is le)
+walk_end p heads count slot last walked e = no_place p heads 0 (walk_failed p heads count slot last walked e)
 
 -- what passes is found
 pub walk_found : (p : Head → Bool) (heads : List Head) (place : ℕ) → IsAlone p heads → passes_at p heads place ≡ true → Some place ≡ place_from p 0 heads

@@ -1,5 +1,5 @@
 -- The heads of a bucket.
-use Rattle.std.specs.Prelude.{◌≡◌, ◌-◌, ◌<◌, ◌&&◌, ℕ, Bool, true, IfSome, IsTrue, List, [], ◌∷◌, Option, Some, None, filter_map, find, is_some, length, map, option_map, slice_get, take, unwrap_or}
+use Rattle.std.specs.Prelude.{◌≡◌, ◌-◌, ◌<◌, ◌==◌, ◌&&◌, ℕ, Bool, true, IfSome, IsTrue, List, [], ◌∷◌, Option, Some, None, filter_map, find, is_some, length, map, option_map, slice_get, take, unwrap_or}
 use Rattle.std.specs.Option.{option_or}
 use Rattle.link_buckets.specs.declared.label.Label.{Label}
 use Rattle.link_buckets.specs.declared.head.Head.{Head}
@@ -53,6 +53,10 @@ is_head names key h = is_used h && leads_to names h.label key
 -- it is in use, and leads to the key of the label
 abbrev pub is_labelled : (Label → Option Key) → Label → Head → Bool
 is_labelled names label h = is_used h && have_one_key names h.label label
+
+-- it has the hash number
+abbrev pub has_hash : ℕ → Head → Bool
+has_hash hash h = h.hash == hash
 
 -- the first head of the key
 abbrev pub head_of : (Label → Option Key) → List Head → Key → Option Head

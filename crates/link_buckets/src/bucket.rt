@@ -23,7 +23,7 @@ impl Bucket {
     ghost use Rattle.std.specs.Option.{option_map_or, option_or};
     ghost use Rattle.link_buckets.specs.declared.label.Label.{Label};
     ghost use Rattle.link_buckets.specs.Keys.{Key, hash_of, key_of, leads_to, number_of, same_key};
-    ghost use Rattle.link_buckets.specs.Heads.{first_alone, head_of, is_head, is_labelled, without_last};
+    ghost use Rattle.link_buckets.specs.Heads.{first_alone, has_hash, head_of, is_head, is_labelled, without_last};
     ghost use Rattle.link_buckets.specs.Places.{place_from};
     ghost use Rattle.link_buckets.specs.Bucket.{IsKeyed, definitions_in, hashes_in, heads_in, label_in, mapped_in, overridden_in};
 
@@ -146,6 +146,31 @@ impl Bucket {
             last = self.places.before(place);
         }
         None
+    }
+
+    /// Whether the head at the place has the hash number.
+    fn has_hash(&self, place: usize, hash: u64) -> bool
+        ensures { result ≡ option_map_or (has_hash hash) (slice_get (heads_in self.now) place) false }
+    {
+        match self.heads.get(place) {
+            Some(head) => head.hash == hash,
+            None => false,
+        }
+    }
+
+    /// Whether some name may have this hash number: where none has, nothing is mapped.
+    pub fn may_have(&self, hash: u64) -> bool
+        ensures { result ≡ false → (names : Label → Option Key) (asked : Key) → IsKeyed names self.now → hash_of asked ≡ hash → mapped_in names self.now asked ≡ None }
+    {
+        let mut last = self.places.last(hash);
+        'heads: while last > 0 {
+            let place = last - 1;
+            if self.has_hash(place, hash) {
+                return true;
+            }
+            last = self.places.before(place);
+        }
+        false
     }
 
     /// Adds a head behind the others.

@@ -23,7 +23,7 @@ pub struct Buckets {
 }
 
 impl Buckets {
-    ghost use Rattle.std.specs.Prelude.{◌≡◌, ◌≢◌, ◌++◌, [], ◌∷◌, ◌%◌, ℕ, All, AllPairs, Contains, Option, None, Some, is_some, IsSomeAnd, IsTrue, IfOk, OnOk, OnErr, length, take, if◌then◌else◌};
+    ghost use Rattle.std.specs.Prelude.{◌≡◌, ◌≢◌, ◌++◌, [], ◌∷◌, ◌%◌, ℕ, All, AllPairs, Contains, Option, None, Some, false, is_some, IsSomeAnd, IsTrue, IfOk, OnOk, OnErr, length, take, if◌then◌else◌};
     ghost use Rattle.std.specs.Option.{option_map_or, option_or};
     ghost use Rattle.link_buckets.specs.declared.label.Label.{Label};
     ghost use Rattle.link_buckets.specs.Keys.{Key, hash_of, key_of, leads_to, number_of, same_key};
@@ -125,6 +125,13 @@ impl Buckets {
         ensures { result ≡ mapped_at (T.key_at table.now) self.now (key_of name.now version.entry) }
     {
         self.buckets[self.place_of(hash)].mapped(table, hash, name, version)
+    }
+
+    /// Whether some name may have this hash number: where none has, nothing is mapped.
+    pub fn may_have(&self, hash: u64) -> bool
+        ensures { result ≡ false → (names : Label → Option Key) (asked : Key) → AreKeyed names self.now → hash_of asked ≡ hash → mapped_at names self.now asked ≡ None }
+    {
+        self.buckets[self.place_of(hash)].may_have(hash)
     }
 
     /// Overrides what the label's key is mapped to, and answers what it was mapped to before.

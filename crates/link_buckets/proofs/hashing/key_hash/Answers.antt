@@ -1,5 +1,5 @@
 use Rattle.std.proofs.Common.{rules}
-use Rattle.link_buckets.specs.Keys.{hash_of, key_of}
+use Rattle.link_buckets.specs.Keys.{hash_of}
 use Rattle.link_buckets.proofs.hashing.key_hash.Goals as goal
 
 pub returns-in-Some : goal.returns-in-Some
