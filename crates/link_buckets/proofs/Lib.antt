@@ -1,5 +1,5 @@
 pub mod Keys
-pub mod Chains
+pub mod Walks
 pub mod Search
 pub mod Hashes
 pub mod Changes

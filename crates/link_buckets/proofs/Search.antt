@@ -1,16 +1,16 @@
--- The place of a key, found by the chain of its hash number.
-use Rattle.std.proofs.Common.{◌≡◌, ◌∙◌, ◌+◌, ◌<◌, ◌≤◌, ◌&&◌, ◌⊎◌, inl, inr, ℕ, zero, suc, Bool, true, false, List, [], ◌∷◌, length, Option, Some, None, refl, sym, ap, subst, arith}
+-- The place of a key, found by the walk of its hash number.
+use Rattle.std.proofs.Common.{◌≡◌, ◌∙◌, ◌+◌, ◌<◌, ◌&&◌, inl, inr, ℕ, zero, suc, Bool, true, false, List, [], ◌∷◌, length, Option, Some, None, refl, sym, ap, arith}
 use Rattle.std.specs.Prelude.{slice_get}
 use Rattle.std.specs.Option.{option_map, option_map_or}
-use Rattle.std.proofs.Math.Nat.{eq-or-lt_of_le}
-use Rattle.std.proofs.lemmas.List.{length-map}
 use Rattle.std.proofs.lemmas.Option.{same_Some, slice_get-map, slice_get_within}
 use Rattle.link_buckets.specs.declared.head.Head.{Head}
 use Rattle.link_buckets.specs.declared.label.Label.{Label}
-use Rattle.link_buckets.specs.Chains.{IsLast, slot_of}
+use Rattle.link_buckets.specs.declared.places.Places.{Places}
 use Rattle.link_buckets.specs.Heads.{HaveKeys, hashes_of, is_head, is_labelled, is_used}
 use Rattle.link_buckets.specs.Keys.{Key, leads_to, number_of, hash_of}
 use Rattle.link_buckets.specs.Places.{place_from}
+use Rattle.link_buckets.specs.Walks.{HaveWalks, passes, walk_of}
+use Rattle.link_buckets.proofs.Walks.{passes_either}
 use Rattle.link_buckets.proofs.Keys.{and-both, leads_there, number_there, key_there, one_key_there}
 
 -- ---- lists
@@ -53,68 +53,43 @@ head_at (h ∷ heads) zero lt = (h, refl)
 head_at (h ∷ heads) (suc i) lt = let lower : i < length heads = omega (arith, lt) in head_at heads i lower
 
 -- its hash number
-hash_at : (heads : List Head) (i : ℕ) (h : Head) → slice_get heads i ≡ Some h → slice_get (hashes_of heads) i ≡ Some h.hash
+pub hash_at : (heads : List Head) (i : ℕ) (h : Head) → slice_get heads i ≡ Some h → slice_get (hashes_of heads) i ≡ Some h.hash
 hash_at heads i h is = slice_get-map (λ (g : Head). g.hash) heads i ∙ ap (option_map (λ (g : Head). g.hash)) is
-
--- one number is below another, or not
-split : (a b : ℕ) → (a < b) ⊎ (b ≤ a)
-split a zero = inr (omega arith)
-split zero (suc b) = inl (omega arith)
-split (suc a) (suc b) = elim (split a b) [ inl lt ↦ inl (omega (arith, lt)) | inr le ↦ inr (omega (arith, le)) ]
 
 -- ---- walks
 
--- The heads from the last on were tried, of those of a slot: none passes. The last is 1 + a place, or 0.
-pub record IsWalked (p : Head → Bool) (heads : List Head) (count slot last : ℕ) : Type 0 where
-  within : last ≤ length heads
-  tried : (i : ℕ) (h : Head) → slice_get heads i ≡ Some h → last ≤ i → p h ≡ false
-  there : (i : ℕ) (h : Head) → last ≡ i + 1 → slice_get heads i ≡ Some h → slot_of count h.hash ≡ slot
+-- each head that passes stands where the rest of a walk passes
+pub record AreLeft (p : Head → Bool) (heads : List Head) (rest : List (ℕ × Bool)) : Type 0 where
+  pub each : (i : ℕ) (h : Head) → slice_get heads i ≡ Some h → p h ≡ true → passes rest i ≡ true
 
--- a walk begins at the last of all heads in the slot
-pub walk_start : (p : Head → Bool) (heads : List Head) (count n last : ℕ) → IsOnly p heads n → IsLast count (hashes_of heads) (slot_of count n) (length (hashes_of heads)) last → IsWalked p heads count (slot_of count n) last
-walk_start p heads count n last only is = record {
-  within = omega (arith, is.within, length-map heads (λ (h : Head). h.hash));
-  tried = λ i h at le. fails (p h) (λ one.
-      let inside : i < length (hashes_of heads) = slice_get_within (hashes_of heads) i h.hash (hash_at heads i h at) in
-      is.none_behind i h.hash (hash_at heads i h at) le inside (ap (slot_of count) (only i h at one)));
-  there = λ i h e at. is.there i h.hash e (hash_at heads i h at);
+-- all are left as the walk of their number begins
+pub left_start : (p : Head → Bool) (heads : List Head) (places : Places) (n : ℕ) → IsOnly p heads n → HaveWalks places (hashes_of heads) → AreLeft p heads (walk_of places.slots.items places.forks.items n)
+left_start p heads places n only walks = record {
+  each = λ i h at one.
+      let is : slice_get (hashes_of heads) i ≡ Some n = hash_at heads i h at ∙ ap Some (only i h at one) in
+      walks.hung.passed i n (slice_get_within (hashes_of heads) i n is) is;
 }
 
--- the last before a place of a walk
-pub walked_last : (p : Head → Bool) (heads : List Head) (count slot place last : ℕ) → IsWalked p heads count slot (place + 1) → ((number : ℕ) → slice_get (hashes_of heads) place ≡ Some number → IsLast count (hashes_of heads) (slot_of count number) place last) → IsLast count (hashes_of heads) slot place last
-walked_last p heads count slot place last walked before =
-    let inside : place < length heads = omega (arith, walked.within) in
-    let at = head_at heads place inside in
-    subst (λ (s : ℕ). IsLast count (hashes_of heads) s place last) (walked.there place at.0 refl at.1) (before at.0.hash (hash_at heads place at.0 at.1))
-
 -- a walk goes on where the head at the place fails
-pub walk_step : (p : Head → Bool) (heads : List Head) (count n place last : ℕ) → IsOnly p heads n → IsWalked p heads count (slot_of count n) (place + 1) → passes_at p heads place ≡ false → IsLast count (hashes_of heads) (slot_of count n) place last → IsWalked p heads count (slot_of count n) last
-walk_step p heads count n place last only walked failed is = record {
-  within = omega (arith, is.within, walked.within);
-  tried = λ i h at le. fails (p h) (λ one. elim (split place i) [
-    | inl lt ↦ let after : place + 1 ≤ i = omega (arith, lt) in let no : p h ≡ false = walked.tried i h at after in absurd (differ (p h) one no)
-    | inr rest ↦ elim (eq-or-lt_of_le rest) [
-      | inl e ↦ let no : p h ≡ false = here i h e at in absurd (differ (p h) one no)
-      | inr lower ↦ is.none_behind i h.hash (hash_at heads i h at) le lower (ap (slot_of count) (only i h at one))
-    ]
-  ]);
-  there = λ i h e at. is.there i h.hash e (hash_at heads i h at);
+pub left_step : (p : Head → Bool) (heads : List Head) (place : ℕ) (side : Bool) (rest : List (ℕ × Bool)) → AreLeft p heads ((place, side) ∷ rest) → passes_at p heads place ≡ false → AreLeft p heads rest
+left_step p heads place side rest left failed = record {
+  each = λ i h at one. elim (passes_either (place, side) rest i (left.each i h at one)) [
+    | inl e ↦ let here : slice_get heads place ≡ Some h = ap (slice_get heads) e ∙ at in let passes : passes_at p heads place ≡ true = ap (λ (o : Option Head). option_map_or p o false) here ∙ one in absurd (differ (passes_at p heads place) passes failed)
+    | inr later ↦ later
+  ];
 }
   where
     differ : (b : Bool) → b ≡ true → b ≡ false → ⊥
     differ true e f = absurd cc
     differ false e f = absurd cc
 
-    here : (i : ℕ) (h : Head) → i ≡ place → slice_get heads i ≡ Some h → p h ≡ false
-    here i h e at = let there : slice_get heads place ≡ Some h = ap (slice_get heads) (sym e) ∙ at in ap (λ (o : Option Head). option_map_or p o false) (sym there) ∙ failed
-
 -- where a walk ends, no head passes
-pub walk_failed : (p : Head → Bool) (heads : List Head) (count slot last : ℕ) → IsWalked p heads count slot last → last ≡ 0 → (k : ℕ) (h : Head) → slice_get heads k ≡ Some h → p h ≡ false
-walk_failed p heads count slot last walked e k h is = let le : last ≤ k = omega (arith, e) in walked.tried k h is le
+pub left_none : (p : Head → Bool) (heads : List Head) → AreLeft p heads [] → (i : ℕ) (h : Head) → slice_get heads i ≡ Some h → p h ≡ false
+left_none p heads left i h at = fails (p h) (λ one. let no : passes [] i ≡ true = left.each i h at one in cc)
 
--- a walk that ends found nothing
-pub walk_end : (p : Head → Bool) (heads : List Head) (count slot last : ℕ) → IsWalked p heads count slot last → last ≡ 0 → None ≡ place_from p 0 heads
-walk_end p heads count slot last walked e = no_place p heads 0 (walk_failed p heads count slot last walked e)
+-- so nothing is found
+pub left_end : (p : Head → Bool) (heads : List Head) → AreLeft p heads [] → None ≡ place_from p 0 heads
+left_end p heads left = no_place p heads 0 (left_none p heads left)
 
 -- what passes is found
 pub walk_found : (p : Head → Bool) (heads : List Head) (place : ℕ) → IsAlone p heads → passes_at p heads place ≡ true → Some place ≡ place_from p 0 heads

@@ -12,7 +12,7 @@ use Rattle.link_buckets.specs.Heads.{HaveKeys, has_hash, head_of, is_head}
 use Rattle.link_buckets.specs.Keys.{Key, hash_of}
 use Rattle.link_buckets.proofs.Changes.{none_found}
 use Rattle.link_buckets.proofs.Rounds.{asked_here}
-use Rattle.link_buckets.proofs.Search.{IsOnly, IsWalked, fails, named_only, no_place, walk_failed}
+use Rattle.link_buckets.proofs.Search.{AreLeft, IsOnly, fails, left_none, named_only, no_place}
 
 -- only heads with a hash number have it
 pub hashed_only : (heads : List Head) (n : ℕ) → IsOnly (has_hash n) heads n
@@ -25,10 +25,10 @@ never_head names heads n key never have hash k h is = fails (is_head names key h
     let no : has_hash n h ≡ false = never k h is in
     cc)
 
--- where a walk by a hash number ends, no key with this number is mapped to anything
-pub walk_unmapped : (names : Label → Option Key) (b : Bucket) (count slot last n : ℕ) (key : Key) → IsWalked (has_hash n) (heads_in b) count slot last → last ≡ 0 → HaveKeys names (heads_in b) → hash_of key ≡ n → mapped_in names b key ≡ None
-walk_unmapped names b count slot last n key walked e have hash =
-    let never : (k : ℕ) (h : Head) → slice_get (heads_in b) k ≡ Some h → is_head names key h ≡ false = never_head names (heads_in b) n key (walk_failed (has_hash n) (heads_in b) count slot last walked e) have hash in
+-- where a walk has passed all heads with a hash number, no key with this number is mapped to anything
+pub walk_unmapped : (names : Label → Option Key) (b : Bucket) (n : ℕ) (key : Key) → AreLeft (has_hash n) (heads_in b) [] → HaveKeys names (heads_in b) → hash_of key ≡ n → mapped_in names b key ≡ None
+walk_unmapped names b n key left have hash =
+    let never : (k : ℕ) (h : Head) → slice_get (heads_in b) k ≡ Some h → is_head names key h ≡ false = never_head names (heads_in b) n key (left_none (has_hash n) (heads_in b) left) have hash in
     let absent : head_of names (heads_in b) key ≡ None = none_found (is_head names key) (heads_in b) None (no_place (is_head names key) (heads_in b) 0 never) refl in
     rw absent refl
 

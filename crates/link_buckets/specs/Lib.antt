@@ -1,7 +1,7 @@
 pub mod Keys
 pub mod Heads
 pub mod Places
-pub mod Chains
+pub mod Walks
 pub mod Bucket
 pub mod Buckets
 pub mod Runs

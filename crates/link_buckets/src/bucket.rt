@@ -1,7 +1,7 @@
 //! A bucket of names.
 
 ghost use Rattle.link_buckets.specs.Heads.{hashes_of};
-ghost use Rattle.link_buckets.specs.Chains.{AreLinked};
+ghost use Rattle.link_buckets.specs.Walks.{HaveWalks};
 
 use crate::head::{Definitions, Head, release_all};
 use crate::label::{Label, Names};
@@ -15,7 +15,7 @@ pub struct Bucket {
     heads: Vec<Head>,
     places: Places,
     alloc: Global,
-    ghost placed: { AreLinked places (hashes_of heads.items) },
+    ghost placed: { HaveWalks places (hashes_of heads.items) },
 }
 
 impl Bucket {
@@ -90,13 +90,10 @@ impl Bucket {
         requires hashed { hash ≡ hash_of (key_of name.now version) }
         ensures { result ≡ place_from (is_head (T.key_at table.now) (key_of name.now version.entry)) 0 (heads_in self.now) }
     {
-        let mut last = self.places.last(hash);
-        'heads: while last > 0 {
-            let place = last - 1;
+        for (place, _) in self.places.walk(hash) {
             if self.is_named(table, place, hash, name, version) {
                 return Some(place);
             }
-            last = self.places.before(place);
         }
         None
     }
@@ -137,13 +134,10 @@ impl Bucket {
         requires hashed { number_of (T.key_at table.now) label ≡ Some hash }
         ensures { result ≡ place_from (is_labelled (T.key_at table.now) label) 0 (heads_in self.now) }
     {
-        let mut last = self.places.last(hash);
-        'heads: while last > 0 {
-            let place = last - 1;
+        for (place, _) in self.places.walk(hash) {
             if self.is_labelled(table, place, hash, label) {
                 return Some(place);
             }
-            last = self.places.before(place);
         }
         None
     }
@@ -162,13 +156,10 @@ impl Bucket {
     pub fn may_have(&self, hash: u64) -> bool
         ensures { result ≡ false → (names : Label → Option Key) (asked : Key) → IsKeyed names self.now → hash_of asked ≡ hash → mapped_in names self.now asked ≡ None }
     {
-        let mut last = self.places.last(hash);
-        'heads: while last > 0 {
-            let place = last - 1;
+        for (place, _) in self.places.walk(hash) {
             if self.has_hash(place, hash) {
                 return true;
             }
-            last = self.places.before(place);
         }
         false
     }

@@ -15,6 +15,7 @@ mod runs;
 mod shares;
 mod side_by_side;
 mod slots;
+mod walk;
 
 pub use bucket::Bucket;
 pub use buckets::Buckets;

@@ -4,38 +4,41 @@ ghost use Rattle.std.specs.Prelude.{◌≡◌, ◌<◌, ◌≤◌, ◌^◌, leng
 
 use crate::head::Head;
 use crate::slots::{slot_among, slots_for};
+use crate::walk::{Fork, Walk, clear};
 use std::alloc::{AllocError, Global};
 
-/// Chains through the heads of a bucket, which it names by their places. A hash number falls in a slot, which says 1 + the place of
-/// the last head whose number falls there, or 0 where there is none; a link says the same of the heads before its own.
+/// Trees of the heads of a bucket, which it names by their places. A hash number falls in a slot, which says 1 + the place of the first
+/// head whose number falls there, or 0 where there is none. The next one that falls there hangs on its left or its right, as a bit of
+/// the number says, or by the next bit on the head that hangs there already, and so on. Heads that a walk passes share one bit more with
+/// its number at each step, so it passes 64 at most whose numbers differ from it, whoever chose the names.
 #[derive(Drop)]
 pub(crate) struct Places {
     slots: Vec<u32>,
-    links: Vec<u32>,
+    forks: Vec<Fork>,
     alloc: Global,
-    ghost roomy: { length links.items ≤ length slots.items },
-    ghost few: { length links.items < 2 ^ 32 },
+    ghost roomy: { length forks.items ≤ length slots.items },
+    ghost few: { length forks.items < 2 ^ 32 },
 }
 
 impl Places {
-    ghost use Rattle.std.specs.Prelude.{ℕ, List, ◌++◌, [], ◌∷◌, ◌+◌, OnOk, OnErr, Some, slice_get};
+    ghost use Rattle.std.specs.Prelude.{ℕ, List, ◌++◌, [], ◌∷◌, ◌+◌, OnOk, OnErr, Some, slice_get, slice_index};
     ghost use Rattle.link_buckets.specs.Heads.{hashes_of};
-    ghost use Rattle.link_buckets.specs.Chains.{AreChained, AreLinked, IsLast, slot_of};
+    ghost use Rattle.link_buckets.specs.Walks.{AreHung, HaveWalks, slot_of, walk_of};
 
     /// Nothing noted. Takes no memory.
     pub(crate) fn new(alloc: Global) -> Self
-        ensures { AreLinked result [] }
+        ensures { HaveWalks result [] }
     {
         Places {
             slots: Vec::new(alloc),
-            links: Vec::new(alloc),
+            forks: Vec::new(alloc),
             alloc,
         }
     }
 
-    /// 1 + the place of the last head in the number's slot, or 0.
-    pub(crate) fn last(&self, number: u64) -> usize
-        ensures { (numbers : List ℕ) → AreLinked self.now numbers → IsLast (length self.now.slots.items) numbers (slot_of (length self.now.slots.items) number) (length numbers) result }
+    /// 1 + the place of the first head in the number's slot, or 0.
+    fn first(&self, number: u64) -> usize
+        ensures { result ≡ slice_index self.now.slots.items (slot_of (length self.now.slots.items) number) }
     {
         if self.slots.is_empty() {
             return 0;
@@ -43,48 +46,55 @@ impl Places {
         self.slots[slot_among(number, self.slots.len())] as usize
     }
 
-    /// 1 + the place of the head before this one in its slot, or 0.
-    pub(crate) fn before(&self, place: usize) -> usize
-        ensures { (numbers : List ℕ) (number : ℕ) → AreLinked self.now numbers → slice_get numbers place ≡ Some number → IsLast (length self.now.slots.items) numbers (slot_of (length self.now.slots.items) number) place result }
+    /// The heads that the number's walk passes. All heads with this number are among them.
+    pub(crate) fn walk(&self, number: u64) -> Walk<'_>
+        ensures { result ≡ walk_of self.now.slots.items self.now.forks.items number }
     {
-        match self.links.get(place) {
-            Some(last) => *last as usize,
-            None => 0,
+        Walk::new(self.forks.as_slice(), number, self.first(number))
+    }
+
+    /// Hangs the head at a place at the end of its number's walk, where those before it hang.
+    fn hang(&mut self, place: usize, number: u64)
+        requires { place < length self.old.forks.items }
+        ensures slots { length self.new.slots.items ≡ length self.old.slots.items }
+        ensures forks { length self.new.forks.items ≡ length self.old.forks.items }
+        ensures hung { (numbers : List ℕ) → slice_get numbers place ≡ Some number → AreHung self.old.slots.items self.old.forks.items numbers place
+            → AreHung self.new.slots.items self.new.forks.items numbers (place + 1) }
+    {
+        let link = place as u32 + 1;
+        match self.walk(number).last() {
+            Some((last, right)) => {
+                if let Some(fork) = self.forks.get_mut(last) {
+                    fork.hang(right, link);
+                }
+            }
+            None => {
+                let slot = slot_among(number, self.slots.len());
+                self.slots[slot] = link;
+            }
         }
     }
 
-    /// Puts a place in front of its number's chain, where those before it are chained.
-    fn link(&mut self, place: usize, number: u64)
-        requires { place < length self.old.links.items }
-        ensures slots { length self.new.slots.items ≡ length self.old.slots.items }
-        ensures links { length self.new.links.items ≡ length self.old.links.items }
-        ensures chained { (numbers : List ℕ) → slice_get numbers place ≡ Some number → AreChained (length self.old.slots.items) numbers self.old.slots.items self.old.links.items place
-            → AreChained (length self.old.slots.items) numbers self.new.slots.items self.new.links.items (place + 1) }
-    {
-        let slot = slot_among(number, self.slots.len());
-        self.links[place] = self.slots[slot];
-        self.slots[slot] = place as u32 + 1;
-    }
-
-    /// Makes so many slots, and the chains of these heads anew.
+    /// Makes so many slots, and hangs these heads anew.
     fn remake(&mut self, heads: &[Head], slots: usize) -> Result<(), AllocError>
-        requires each { length self.old.links.items ≡ length heads.now }
+        requires each { length self.old.forks.items ≡ length heads.now }
         requires room { length heads.now ≤ slots }
-        ensures linked { OnOk result (AreLinked self.new (hashes_of heads.now)) }
+        ensures walks { OnOk result (HaveWalks self.new (hashes_of heads.now)) }
         ensures slots { OnOk result (length self.new.slots.items ≡ slots) }
         ensures err { OnErr result (self.new ≡ self.old) }
     {
         self.slots = vec![in self.alloc; 0; slots]?;
+        clear(self.forks.as_mut_slice());
         for (place, head) in heads.iter().enumerate() {
-            self.link(place, head.hash);
+            self.hang(place, head.hash);
         }
         Ok(())
     }
 
     /// Makes slots for so many heads. What is noted stays.
     pub(crate) fn prepare(&mut self, heads: &[Head], wanted: usize) -> Result<(), AllocError>
-        requires linked { AreLinked self.old (hashes_of heads.now) }
-        ensures linked { AreLinked self.new (hashes_of heads.now) }
+        requires walks { HaveWalks self.old (hashes_of heads.now) }
+        ensures walks { HaveWalks self.new (hashes_of heads.now) }
         ensures room { OnOk result (wanted ≤ length self.new.slots.items) }
     {
         if self.slots.len() < wanted {
@@ -95,25 +105,25 @@ impl Places {
 
     /// Makes room for so many heads more. What is noted stays.
     pub(crate) fn reserve(&mut self, heads: &[Head], more: usize) -> Result<(), AllocError>
-        requires linked { AreLinked self.old (hashes_of heads.now) }
-        ensures linked { AreLinked self.new (hashes_of heads.now) }
+        requires walks { HaveWalks self.old (hashes_of heads.now) }
+        ensures walks { HaveWalks self.new (hashes_of heads.now) }
     {
         self.prepare(heads, heads.len().saturating_add(more))?;
-        self.links.reserve(more)
+        self.forks.reserve(more)
     }
 
     /// Notes the number of one head more, behind the others.
     pub(crate) fn note(&mut self, number: u64) -> Result<(), AllocError>
-        requires room { length self.old.links.items < length self.old.slots.items }
-        ensures ok { OnOk result ((numbers : List ℕ) → AreLinked self.old numbers → AreLinked self.new (numbers ++ number ∷ [])) }
-        ensures err { OnErr result ((numbers : List ℕ) → AreLinked self.old numbers → AreLinked self.new numbers) }
+        requires room { length self.old.forks.items < length self.old.slots.items }
+        ensures ok { OnOk result ((numbers : List ℕ) → HaveWalks self.old numbers → HaveWalks self.new (numbers ++ number ∷ [])) }
+        ensures err { OnErr result ((numbers : List ℕ) → HaveWalks self.old numbers → HaveWalks self.new numbers) }
     {
-        let place = self.links.len();
+        let place = self.forks.len();
         if place >= u32::MAX as usize {
             return Err(AllocError);
         }
-        self.links.push(0)?;
-        self.link(place, number);
+        self.forks.push(Fork::bare())?;
+        self.hang(place, number);
         Ok(())
     }
 }

@@ -229,6 +229,27 @@ fn names_are_told_apart_in_any_number_of_buckets(rt: HostRuntime) -> Result<(), 
     Ok(())
 }
 
+/// Whether some name may have the hash number of an entry.
+fn may_have(buckets: &Buckets, table: &Texts, entry: u32) -> Option<bool> {
+    Some(buckets.may_have(table.number(Label::Plain(entry))?))
+}
+
+#[test]
+fn numbers_are_known_once_a_name_has_them(rt: HostRuntime) -> Result<(), Fail> {
+    let table = make_table(rt.alloc())?;
+    for &count in COUNTS {
+        let mut buckets = Buckets::new(rt.alloc(), count.max(1))?;
+        assert_eq!(rt; may_have(&buckets, &table, 0), Some(false));
+        let part = definitions(rt.alloc(), &table, &[(0, 10), (4, 14)])?;
+        buckets.apply(&rt, &table, &[part.as_slice()])?;
+        assert_eq!(rt; may_have(&buckets, &table, 0), Some(true));
+        assert_eq!(rt; may_have(&buckets, &table, 1), Some(true));
+        assert_eq!(rt; may_have(&buckets, &table, 2), Some(false));
+        assert_eq!(rt; may_have(&buckets, &table, 5), Some(false));
+    }
+    Ok(())
+}
+
 /// How often each entry is defined in a part: so often that threads share the definitions of two parts.
 const ROUNDS: u32 = 1000;
 

@@ -5,7 +5,7 @@ use Rattle.std.specs.Prelude.{slice_get}
 use Rattle.link_buckets.specs.declared.head.Head.{Head}
 use Rattle.link_buckets.specs.Heads.{HaveKeys, ids_of, is_labelled}
 use Rattle.link_buckets.specs.Keys.{leads_to}
-use Rattle.link_buckets.specs.Chains.{AreLinked}
+use Rattle.link_buckets.specs.Walks.{HaveWalks}
 use Rattle.link_buckets.proofs.Changes.{place_within, changed_label, added_label, reads_change, reads_same, was_there, label_read, in_use, ids_in_use, overridden_in_use, found_used, keys-set, keys-push}
 use Rattle.link_buckets.proofs.Hashes.{hashes_of-set}
 use Rattle.link_buckets.proofs.bucket.Bucket.override_name.Goals as goal
@@ -23,7 +23,7 @@ invariant_of-self g c =
     let y : Head = record { label = h.label; hash = h.hash; definitions = h.definitions; overridden = Some c.args.id } in
     let within = place_within (is_labelled names c.args.label) heads (Some c.in-Some.place) c.in-Some.place c.in-Some.ensures refl in
     let is = slice_get_read heads (length heads) c.in-Some.place h refl within c.index_mut-head.ensures.value in
-    record { placed = subst (AreLinked c.args.self.now.places) (sym (hashes_of-set heads c.in-Some.place h y is refl)) c.args.self.now.placed }
+    record { placed = subst (HaveWalks c.args.self.now.places) (sym (hashes_of-set heads c.in-Some.place h y is refl)) c.args.self.now.placed }
 
 pub returns-in-Some-clause-keyed : goal.returns-in-Some-clause-keyed
 returns-in-Some-clause-keyed g c =

@@ -1,11 +1,6 @@
-use Rattle.std.proofs.Common.{length}
-use Rattle.link_buckets.specs.Chains.{slot_of}
 use Rattle.link_buckets.specs.Heads.{is_labelled}
-use Rattle.link_buckets.proofs.Search.{IsWalked}
+use Rattle.link_buckets.proofs.Search.{AreLeft}
 use Rattle.link_buckets.proofs.bucket.Bucket.place_of_label.Given as goal
 
-abbrev pub invariant-heads : goal.invariant-heads
-invariant-heads g l = IsWalked (is_labelled (g.T.Names.key_at l.table) l.label) l.self.heads.items (length l.self.places.slots.items) (slot_of (length l.self.places.slots.items) l.hash) l.last
-
-abbrev pub decreases-heads : goal.decreases-heads
-decreases-heads g l = l.last
+abbrev pub invariant-loop-place : goal.invariant-loop-place
+invariant-loop-place g l = AreLeft (is_labelled (g.T.Names.key_at l.table) l.label) l.self.heads.items l.place-iterator

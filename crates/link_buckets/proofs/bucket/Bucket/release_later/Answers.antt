@@ -2,7 +2,7 @@ use Rattle.std.proofs.Common.{◌∙◌, List, [], map, sym, ap, subst}
 use Rattle.std.specs.Option.{option_and_then, option_map, option_map_or}
 use Rattle.link_buckets.specs.declared.head.Head.{Head}
 use Rattle.link_buckets.specs.Heads.{HaveKeys, hashes_of, first_alone, head_of, ids_of}
-use Rattle.link_buckets.specs.Chains.{AreLinked}
+use Rattle.link_buckets.specs.Walks.{HaveWalks}
 use Rattle.link_buckets.proofs.Releasing.{all_written, definitions_alone, hashes_alone, keys_alone, label_alone, overridden_alone}
 use Rattle.link_buckets.proofs.bucket.Bucket.release_later.Goals as goal
 
@@ -10,7 +10,7 @@ pub invariant_of-self : goal.invariant_of-self
 invariant_of-self c =
     let heads = c.args.self.now.heads.items in
     let is = all_written _ c.release_all.new.heads c.as_mut_slice.result.now heads c.args.self.now.heads.ok.0 c.as_mut_slice.ensures.value c.release_all.auto.heads ∙ c.release_all.ensures ∙ ap (map first_alone) c.as_mut_slice.ensures.value in
-    record { placed = subst (AreLinked c.args.self.now.places) (sym (ap hashes_of is ∙ hashes_alone heads)) c.args.self.now.placed }
+    record { placed = subst (HaveWalks c.args.self.now.places) (sym (ap hashes_of is ∙ hashes_alone heads)) c.args.self.now.placed }
 
 pub returns-clause-keyed : goal.returns-clause-keyed
 returns-clause-keyed c =

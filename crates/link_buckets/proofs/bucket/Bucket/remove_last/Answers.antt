@@ -4,7 +4,7 @@ use Rattle.std.specs.Option.{option_map_or, option_and_then}
 use Rattle.link_buckets.specs.declared.head.Head.{Head}
 use Rattle.link_buckets.specs.Heads.{ids_of, is_head, without_last}
 use Rattle.link_buckets.specs.Keys.{key_of, same_key}
-use Rattle.link_buckets.specs.Chains.{AreLinked}
+use Rattle.link_buckets.specs.Walks.{HaveWalks}
 use Rattle.link_buckets.proofs.Changes.{place_within, changed_key, reads_change, reads_same, reads_none, labels_left, labels_stay, in_use, ids_in_use, overridden_in_use, found_used_key, keys-set}
 use Rattle.link_buckets.proofs.Hashes.{hashes_of-set}
 use Rattle.link_buckets.proofs.bucket.Bucket.remove_last.Goals as goal
@@ -22,7 +22,7 @@ invariant_of-self g c =
     let y : Head = c.remove_last.new.self in
     let within = place_within (is_head names (key_of c.args.name.now c.args.version)) heads (Some c.in-Some.place) c.in-Some.place c.in-Some.ensures refl in
     let is = slice_get_read heads (length heads) c.in-Some.place h refl within c.index_mut-head.ensures.value in
-    record { placed = subst (AreLinked c.args.self.now.places) (sym (hashes_of-set heads c.in-Some.place h y is (ap (λ (x : Head). x.hash) c.remove_last.ensures.rest))) c.args.self.now.placed }
+    record { placed = subst (HaveWalks c.args.self.now.places) (sym (hashes_of-set heads c.in-Some.place h y is (ap (λ (x : Head). x.hash) c.remove_last.ensures.rest))) c.args.self.now.placed }
 
 pub returns-in-Some-clause-keyed : goal.returns-in-Some-clause-keyed
 returns-in-Some-clause-keyed g c =

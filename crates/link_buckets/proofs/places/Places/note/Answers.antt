@@ -1,7 +1,8 @@
 use Rattle.std.proofs.Common.{◌∙◌}
-use Rattle.link_buckets.proofs.Chains.{linked_push}
+use Rattle.link_buckets.proofs.Walks.{either_side, walks_push}
 use Rattle.link_buckets.proofs.places.Places.note.Goals as goal
 
 pub returns-clause-ok : goal.returns-clause-ok
-returns-clause-ok c = λ numbers linked.
-    linked_push c.args.self.now c.link.new.self c.push.new.self.items numbers c.len-place.result c.args.number linked (c.len-place.ensures ∙ c.args.self.now.links.ok.0) c.in_ok-push.ensures.items c.link.ensures.slots c.link.ensures.links c.link.ensures.chained
+returns-clause-ok c = λ numbers walks.
+    let bare = c.bare.result in
+    walks_push c.args.self.now c.hang.new.self c.push.new.self.items bare numbers c.len-place.result c.args.number walks (c.len-place.ensures ∙ c.args.self.now.forks.ok.0) c.in_ok-push.ensures.items (either_side bare c.bare.ensures.left c.bare.ensures.right) c.hang.ensures.forks c.hang.ensures.hung
