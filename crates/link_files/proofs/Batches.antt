@@ -102,10 +102,11 @@ held-more {P} held starts more h link =
       found = refl;
     }
 
--- the same, as the lists grow
-pub held-grown : {P : Type 0} (held : HeldFiles P) (starts : List FileStart) (more groups : List (Group P)) (more_starts all_starts : List FileStart) → AreHeld held starts → AreGroupsOfLink (held.groups ++ more)
-    → groups ≡ held.groups ++ more → more_starts ≡ starts_of more → all_starts ≡ starts ++ more_starts → AreHeld (record held { groups = groups }) all_starts
-held-grown {P} held starts more groups more_starts all_starts h link is found all =
-    let begin : all_starts ≡ starts_of (held.groups ++ more) = all ∙ (ap (λ (l : List FileStart). l ++ more_starts) h.found ∙ (ap (λ (l : List FileStart). starts_of held.groups ++ l) found ∙ sym (flat_map-append group_starts held.groups more))) in
-    subst (λ (gs : List (Group P)). AreHeld (record held { groups = gs }) all_starts) (sym is)
-    (subst (λ (l : List FileStart). AreHeld (record held { groups = held.groups ++ more }) l) (sym begin) (held-more held starts more h link))
+-- groups behind others, where they are held so, as the lists grow
+pub held-joined : {P : Type 0} (held : HeldFiles P) (more groups : List (Group P)) (old own all : List FileStart) → AreHeld (record held { groups = held.groups ++ more }) (starts_of (held.groups ++ more))
+    → old ≡ starts_of held.groups → groups ≡ held.groups ++ more → own ≡ starts_of more → all ≡ old ++ own → AreHeld (record held { groups = groups }) all
+held-joined {P} held more groups old own all h found is have joined =
+    let begin : all ≡ starts_of (held.groups ++ more) =
+    joined ∙ (ap (λ (l : List FileStart). l ++ own) found ∙ (ap (λ (l : List FileStart). starts_of held.groups ++ l) have ∙ sym (flat_map-append group_starts held.groups more))) in
+    subst (λ (gs : List (Group P)). AreHeld (record held { groups = gs }) all) (sym is)
+    (subst (λ (l : List FileStart). AreHeld (record held { groups = held.groups ++ more }) l) (sym begin) h)

@@ -17,7 +17,7 @@ use Rattle.link_files.specs.Adding.{CanFollow, HasNoSymbols}
 use Rattle.link_files.specs.GroupFiles.{symbols_in}
 use Rattle.link_files.specs.HeldFiles.{HeldFiles, names_in}
 use Rattle.link_files.specs.Numbered.{AreHeld, AreNumbered, HasNoTable, spans_of}
-use Rattle.link_files.specs.Starts.{starts_of, group_starts}
+use Rattle.link_files.specs.Starts.{starts_of}
 use Rattle.link_files.proofs.Lookup.{ids-count}
 use Rattle.link_files.proofs.Numbered.{bare, id_count, id-count-append, ids-of-table, tabled-symbols}
 
@@ -102,7 +102,7 @@ symbols-more {P} groups g none =
 
 -- a group more is held
 pub held-group : {P : Type 0} (held : HeldFiles P) (starts : List FileStart) (g : Group P) → AreHeld held starts → CanFollow held g
-    → AreHeld (record held { groups = held.groups ++ g ∷ [] }) (starts ++ group_starts g)
+    → AreHeld (record held { groups = held.groups ++ g ∷ [] }) (starts_of (held.groups ++ g ∷ []))
 held-group {P} held starts g h can =
     let groups = held.groups in
     let fs = flat_map (λ (k : Group P). files_of k) groups in
@@ -113,15 +113,8 @@ held-group {P} held starts g h can =
       numbered = subst (λ (l : List SequencedFile). AreNumbered l (length held.added)) (sym all) (numbered-more fs (files_of g) (length held.added) h.numbered none);
       places = places-more groups g (files_of g) can.ids h.places;
       fits = subst (λ (l : List Symbol). length (map (λ (x : Symbol). x.name) l ++ held.added) < 2 ^ 32) (sym same) h.fits;
-      found = ap (λ l. l ++ group_starts g) h.found ∙ (ap (λ l. starts_of groups ++ l) (sym (append-nil (group_starts g))) ∙ sym (flat_map-append group_starts groups (g ∷ [])));
+      found = refl;
     }
-
--- the same, as the lists grow
-pub held-pushed : {P : Type 0} (held : HeldFiles P) (starts : List FileStart) (g : Group P) (groups : List (Group P)) (more all : List FileStart) → AreHeld held starts → CanFollow held g
-    → groups ≡ held.groups ++ g ∷ [] → more ≡ group_starts g → all ≡ starts ++ more → AreHeld (record held { groups = groups }) all
-held-pushed {P} held starts g groups more all h can is found joined =
-    subst (λ (gs : List (Group P)). AreHeld (record held { groups = gs }) all) (sym is)
-    (subst (λ (l : List FileStart). AreHeld (record held { groups = held.groups ++ g ∷ [] }) l) (sym (joined ∙ ap (λ (l : List FileStart). starts ++ l) found)) (held-group held starts g h can))
 
 -- behind a group without symbols the names are those that were held
 pub names-more : {P : Type 0} (held : HeldFiles P) (g : Group P) → CanFollow held g → names_in (record held { groups = held.groups ++ g ∷ [] }) ≡ names_in held

@@ -11,3 +11,6 @@ pub mod Entries
 pub mod Picking
 pub mod Prefix
 pub mod Outlined
+pub mod OnePlace
+pub mod Asking
+pub mod Kept

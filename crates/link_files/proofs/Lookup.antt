@@ -97,7 +97,7 @@ some-files [] id lt = absurd (omega (arith, lt))
 some-files (f ∷ fs) id lt = omega arith
 
 -- the first file of a run begins with it
-first-run : (n : ℕ) (fs : List SequencedFile) → RunsFrom n (spans_of fs) → (f : SequencedFile) → slice_get fs 0 ≡ Some f → f.symbols.start ≡ n
+pub first-run : (n : ℕ) (fs : List SequencedFile) → RunsFrom n (spans_of fs) → (f : SequencedFile) → slice_get fs 0 ≡ Some f → f.symbols.start ≡ n
 first-run n [] runs f is = cc
 first-run n (x ∷ xs) runs f is = subst (λ (g : SequencedFile). g.symbols.start ≡ n) (same_Some x f is) runs.0
 

@@ -1,7 +1,7 @@
 -- The outlines of files, as groups are added and taken back.
-use Rattle.std.proofs.Common.{◌≡◌, ◌+◌, ◌++◌, ◌∙◌, ℕ, List, [], ◌∷◌, Some, length, length-append, map, take, drop, refl, slice_get, sym, ap}
+use Rattle.std.proofs.Common.{◌≡◌, ◌+◌, ◌<◌, ◌++◌, ◌∙◌, ℕ, zero, suc, List, [], ◌∷◌, Some, get_or, length, length-append, map, take, drop, refl, slice_get, sym, ap, arith}
 use Rattle.std.specs.List.{flat_map}
-use Rattle.std.proofs.lemmas.List.{append_assoc, append-nil, length-map, map-append, take-append-drop, take_at}
+use Rattle.std.proofs.lemmas.List.{append_assoc, length-map, map-append, take-append-drop, take_at}
 use Rattle.std.proofs.lemmas.List.Concat.{flat_map-append}
 use Rattle.link_groups.proofs.FileTotals.{drop-at}
 use Rattle.link_groups.specs.declared.group.Group.{Group}
@@ -22,20 +22,6 @@ outline-more files place f old new all at more before =
     let rest = map (λ (x : SequencedFile). outline_of x.file) (drop (place + 1) files) in
     ap (λ l. l ++ rest) more ∙ (append_assoc old (outline_of f.file ∷ []) rest
     ∙ (ap (λ (l : List SequencedFile). old ++ map (λ (x : SequencedFile). outline_of x.file) l) (sym (drop-at files place f at)) ∙ before))
-
--- a group more
-pub outlines-pushed : {P : Type 0} (groups new : List (Group P)) (g : Group P) (old more all : List FileOutline) → old ≡ outlines_of groups → new ≡ groups ++ g ∷ []
-    → more ≡ group_outlines g → all ≡ old ++ more → all ≡ outlines_of new
-outlines-pushed {P} groups new g old more all held is own joined =
-    joined ∙ (ap (λ l. l ++ more) held ∙ (ap (λ l. outlines_of groups ++ l) (own ∙ sym (append-nil (group_outlines g)))
-    ∙ (sym (flat_map-append group_outlines groups (g ∷ [])) ∙ sym (ap (λ (l : List (Group P)). outlines_of l) is))))
-
--- groups more
-pub outlines-grown : {P : Type 0} (groups more new : List (Group P)) (old own all : List FileOutline) → old ≡ outlines_of groups → new ≡ groups ++ more
-    → own ≡ outlines_of more → all ≡ old ++ own → all ≡ outlines_of new
-outlines-grown {P} groups more new old own all held is have joined =
-    joined ∙ (ap (λ l. l ++ own) held ∙ (ap (λ l. outlines_of groups ++ l) have
-    ∙ (sym (flat_map-append group_outlines groups more) ∙ sym (ap (λ (l : List (Group P)). outlines_of l) is))))
 
 -- they are as many as files
 pub count-outlines : {P : Type 0} (groups : List (Group P)) → length (outlines_of groups) ≡ length (flat_map files_of groups)
@@ -68,3 +54,28 @@ pub outlines-are : {P : Type 0} (groups : List (Group P)) → outlines_of groups
 outlines-are [] = refl
 outlines-are (g ∷ gs) =
     ap (λ l. group_outlines g ++ l) (outlines-are gs) ∙ sym (map-append (λ (x : SequencedFile). outline_of x.file) (files_of g) (flat_map files_of gs))
+
+-- the outlines of files
+abbrev pub outlines : List SequencedFile → List FileOutline
+outlines files = map (λ (f : SequencedFile). outline_of f.file) files
+
+-- what is read of a list rests on no default
+get_or_any : {A : Type 0} (xs : List A) (i : ℕ) (d e : A) → i < length xs → get_or xs i d ≡ get_or xs i e
+get_or_any [] i d e lt = absurd (omega arith)
+get_or_any (x ∷ xs) zero d e lt = refl
+get_or_any (x ∷ xs) (suc i) d e lt = get_or_any xs i d e (omega (arith, lt))
+
+-- they are as many
+pub length-outlines : (files : List SequencedFile) → length (outlines files) ≡ length files
+length-outlines files = length-map files (λ (f : SequencedFile). outline_of f.file)
+
+-- an element that is read of a list is read of the same list
+pub get_or_default : {A : Type 0} (xs ys : List A) (i : ℕ) (d : A) → xs ≡ ys → i < length xs → get_or xs i d ≡ get_or ys i (get_or xs i d)
+get_or_default {A} xs ys i d same lt = get_or_any xs i d (get_or xs i d) lt ∙ ap (λ (l : List A). get_or l i (get_or xs i d)) same
+
+-- an outline that is read is that of the file at its place
+pub file-at : (files : List SequencedFile) (i : ℕ) (o : FileOutline) → i < length (outlines files) → o ≡ get_or (outlines files) i o
+    → (f : SequencedFile) × (slice_get files i ≡ Some f) × (o ≡ outline_of f.file)
+file-at [] i o lt is = absurd (omega arith)
+file-at (f ∷ files) zero o lt is = (f, refl, is)
+file-at (f ∷ files) (suc i) o lt is = file-at files i o (omega (arith, lt)) is

@@ -6,3 +6,6 @@ pub mod Numbered
 pub mod Inputs
 pub mod Adding
 pub mod Outlines
+pub mod Sources
+pub mod Asked
+pub mod Columns

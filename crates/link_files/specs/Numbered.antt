@@ -35,3 +35,7 @@ pub record AreHeld {P : Type 0} (held : HeldFiles P) (starts : List FileStart) :
   pub places : HavePlaces held.groups
   pub fits : length (names_in held) < 2 ^ 32
   pub found : starts ≡ starts_of held.groups
+
+-- groups can be held, with these names of the linker's own symbols: each file begins where its group says
+abbrev pub CanBeHeld : {P : Type 0} → HeldFiles P → Type 0
+CanBeHeld held = AreHeld held (starts_of held.groups)

@@ -3,9 +3,7 @@
 ghost use Rattle.std.specs.Prelude.{◌≡◌, List};
 ghost use Rattle.link_files.specs.Adding.{EndsInSynthetic, HasRoom, with_id};
 
-use crate::files::{Files, append_both};
-use crate::outlines::group_outlines;
-use crate::starts::group_starts;
+use crate::files::Files;
 use link_groups::{Group, SyntheticSymbols};
 use link_ids::{FileId, SymbolId, SymbolIdRange};
 use link_input::Platform;
@@ -71,17 +69,9 @@ impl<P: Platform> Files<P> {
         ensures ok { OnOk result (self.new ≡ record self.old { groups = self.old.groups ++ group ∷ [] }) }
         ensures err { OnErr result (self.new ≡ self.old) }
     {
-        let started = self.starts.len();
-        let outlined = self.outlines.len();
-        let starts = group_starts(alloc, &group)?;
-        let outlines = group_outlines(alloc, &group)?;
-        append_both(&mut self.starts, starts, &mut self.outlines, outlines)?;
-        if let Err(error) = self.groups.push(group) {
-            self.starts.truncate(started);
-            self.outlines.truncate(outlined);
-            return Err(error.into());
-        }
-        Ok(())
+        let mut groups = Vec::with_capacity(alloc, 1)?;
+        groups.push(group)?;
+        self.append_groups(alloc, groups)
     }
 
     /// Adds the group of the symbols that the linker adds, of which there is none yet, and answers the id of its file. After a

@@ -2,8 +2,11 @@
 
 ghost use Rattle.std.specs.Prelude.{◌≡◌, ◌++◌, OnErr, OnOk};
 
-use crate::outlines::{FileOutline, outlines_of};
+use crate::appending::append_both;
+use crate::columns::Columns;
+use crate::outlines::FileOutline;
 use crate::search::place_of;
+use crate::sources::SymbolSource;
 use crate::starts::{FileStart, starts_of};
 use link_groups::{Group, SequencedInput};
 use link_ids::{FileId, SymbolId};
@@ -22,51 +25,33 @@ pub struct Files<P: Platform> {
     pub(crate) added: Vec<Name>,
     /// Where the ids of each file begin, in their order.
     pub(crate) starts: Vec<FileStart>,
-    /// What passes over all files ask of each, in their order.
-    pub(crate) outlines: Vec<FileOutline>,
+    /// What passes over all files and over all symbols ask of each.
+    pub(crate) columns: Columns,
 }
 
 impl<P: Platform> Model for Files<P> {
     ghost use Rattle.std.specs.Prelude.{◌≡◌};
+    ghost use Rattle.link_files.specs.Columns.{columns_of};
     ghost use Rattle.link_files.specs.HeldFiles.{HeldFiles};
     ghost use Rattle.link_files.specs.Numbered.{AreHeld};
-    ghost use Rattle.link_files.specs.Outlines.{outlines_of};
 
     ghost Value = { HeldFiles P };
 
     ghost view = { λ f. record { groups = f.groups.items; added = f.added.items } };
 
-    ghost invariant = { λ f. AreHeld (record { groups = f.groups.items; added = f.added.items }) f.starts.items × (f.outlines.items ≡ outlines_of f.groups.items) };
-}
-
-/// Puts two lists behind two others. After a refusal, which is want of memory, these are as before.
-pub(crate) fn append_both<A: Drop, B: Drop>(
-    left: &mut Vec<A>,
-    mut more_left: Vec<A>,
-    right: &mut Vec<B>,
-    mut more_right: Vec<B>,
-) -> Result<(), AllocError>
-    ensures left { OnOk result (left.new.items ≡ left.old.items ++ more_left.items) }
-    ensures right { OnOk result (right.new.items ≡ right.old.items ++ more_right.items) }
-    ensures left_unchanged { OnErr result (left.new.items ≡ left.old.items) }
-    ensures right_unchanged { OnErr result (right.new.items ≡ right.old.items) }
-{
-    let held = left.len();
-    left.append(&mut more_left)?;
-    if let Err(error) = right.append(&mut more_right) {
-        left.truncate(held);
-        return Err(error);
-    }
-    Ok(())
+    ghost invariant = { λ f. AreHeld (record { groups = f.groups.items; added = f.added.items }) f.starts.items × (f.columns ≡ columns_of f.groups.items) };
 }
 
 impl<P: Platform> Files<P> {
     ghost use Rattle.std.specs.Prelude.{◌++◌, [], ◌<◌, ◌^◌, IfSome, List, OnOk, OnErr, Some, is_some, IsTrue, length, slice_get};
     ghost use Rattle.link_groups.specs.SequencedInputs.{sequenced_file};
+    ghost use Rattle.link_files.specs.Asked.{asked_numbers_of};
     ghost use Rattle.link_files.specs.GroupFiles.{AreGroupsOfLink, IsFileOf, IsIn, file_at, symbols_in};
     ghost use Rattle.link_files.specs.HeldFiles.{names_in, object_with};
     ghost use Rattle.link_files.specs.Inputs.{objects_before};
+    ghost use Rattle.link_files.specs.Numbered.{CanBeHeld};
     ghost use Rattle.link_files.specs.Outlines.{outlines_of};
+    ghost use Rattle.link_files.specs.Sources.{sources_of};
 
     /// No files. Takes no memory.
     pub fn new(alloc: Global) -> Self
@@ -76,7 +61,7 @@ impl<P: Platform> Files<P> {
             groups: Vec::new(alloc),
             added: Vec::new(alloc),
             starts: Vec::new(alloc),
-            outlines: Vec::new(alloc),
+            columns: Columns::new(alloc),
         }
     }
 
@@ -91,7 +76,45 @@ impl<P: Platform> Files<P> {
     pub fn outlines(&self) -> &[FileOutline]
         ensures { result.now ≡ outlines_of self.now.groups }
     {
-        self.outlines.as_slice()
+        self.columns.outlines()
+    }
+
+    /// Where each symbol stands, by the id of the symbol.
+    pub fn sources(&self) -> &[SymbolSource]
+        ensures { result.now ≡ sources_of (symbols_in self.now.groups) }
+    {
+        self.columns.sources()
+    }
+
+    /// The hash number of the name, or of the name and version, that each symbol asks for, by its id; none where it asks for none.
+    pub fn asked_numbers(&self) -> &[Option<u64>]
+        ensures { result.now ≡ asked_numbers_of (symbols_in self.now.groups) }
+    {
+        self.columns.asked()
+    }
+
+    /// Puts groups behind those that are held, where they can be held so. After a refusal, which is want of memory, all is as before.
+    pub(crate) fn append_groups(
+        &mut self,
+        alloc: Global,
+        groups: Vec<Group<P>>,
+    ) -> Result<(), AllocError>
+        requires { CanBeHeld self.old → CanBeHeld (record self.old { groups = self.old.groups ++ groups.items }) }
+        ensures ok { OnOk result (self.new ≡ record self.old { groups = self.old.groups ++ groups.items }) }
+        ensures held { OnOk result (CanBeHeld self.old) }
+        ensures err { OnErr result (self.new ≡ self.old) }
+    {
+        let held_groups = self.groups.len();
+        let held_files = self.starts.len();
+        let starts = starts_of(alloc, groups.as_slice())?;
+        let columns = Columns::of_groups(alloc, self.num_objects(), groups.as_slice())?;
+        append_both(&mut self.starts, starts, &mut self.groups, groups)?;
+        if let Err(error) = self.columns.append(columns) {
+            self.starts.truncate(held_files);
+            self.groups.truncate(held_groups);
+            return Err(error);
+        }
+        Ok(())
     }
 
     /// Adds the groups of a batch, before the linker adds any symbol. After a refusal, which is want of memory, all is as before.
@@ -101,18 +124,7 @@ impl<P: Platform> Files<P> {
         ensures none { OnOk result (self.old.added ≡ []) }
         ensures err { OnErr result (self.new ≡ self.old) }
     {
-        let started = self.starts.len();
-        let outlined = self.outlines.len();
-        let mut groups = groups;
-        let starts = starts_of(alloc, groups.as_slice())?;
-        let outlines = outlines_of(alloc, groups.as_slice())?;
-        append_both(&mut self.starts, starts, &mut self.outlines, outlines)?;
-        if let Err(error) = self.groups.append(&mut groups) {
-            self.starts.truncate(started);
-            self.outlines.truncate(outlined);
-            return Err(error);
-        }
-        Ok(())
+        self.append_groups(alloc, groups)
     }
 
     /// How many symbols there are: those of the files, and those that the linker added. Where the groups begin those of a link, there

@@ -2,13 +2,18 @@
 #![tactic(auto)]
 
 mod adding;
+mod appending;
+mod asked;
+mod columns;
 mod counting;
 mod files;
 mod outlines;
 mod removing;
 mod search;
+mod sources;
 mod starts;
 mod symbol_queries;
 
 pub use files::Files;
 pub use outlines::{FileOutline, object_count, symbol_count};
+pub use sources::SymbolSource;

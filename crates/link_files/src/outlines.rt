@@ -82,18 +82,6 @@ fn push_outlines<P: Platform>(
     Ok(())
 }
 
-/// Those of the files of one group.
-pub(crate) fn group_outlines<P: Platform>(
-    alloc: Global,
-    group: &Group<P>,
-) -> Result<Vec<FileOutline>, AllocError>
-    ensures { IfOk result (λ outlines. outlines.items ≡ group_outlines group.now) }
-{
-    let mut outlines = Vec::new(alloc);
-    push_outlines(&mut outlines, group)?;
-    Ok(outlines)
-}
-
 /// Those of the files of groups.
 pub(crate) fn outlines_of<P: Platform>(
     alloc: Global,

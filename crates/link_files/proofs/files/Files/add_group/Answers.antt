@@ -1,14 +1,13 @@
-use Rattle.std.proofs.Common.{subst, sym}
-use Rattle.link_files.specs.Adding.{CanFollow}
-use Rattle.link_files.specs.HeldFiles.{HeldFiles}
-use Rattle.link_files.proofs.Growing.{held-pushed}
-use Rattle.link_files.proofs.Outlined.{outlines-pushed}
+use Rattle.std.proofs.Common.{◌≡◌, ◌++◌, ◌∙◌, [], ◌∷◌, List, ap, subst, sym}
+use Rattle.link_groups.specs.declared.group.Group.{Group}
+use Rattle.link_files.specs.Numbered.{CanBeHeld}
+use Rattle.link_files.specs.Starts.{starts_of}
+use Rattle.link_files.proofs.Growing.{held-group}
 use Rattle.link_files.proofs.files.Files.add_group.Goals as goal
 
-pub invariant_of-self-in_default : goal.invariant_of-self-in_default
-invariant_of-self-in_default g c =
-    let held : HeldFiles g.row.P.Denot = record { groups = c.self.inside.groups.items; added = c.self.inside.added.items } in
-    let can : CanFollow held c.args.group = subst (λ (h : HeldFiles g.row.P.Denot). CanFollow h c.args.group) (sym c.self.view_is) c.requires in (
-      held-pushed held c.self.inside.starts.items c.args.group c.push.new.self.items c.in_ok-starts.starts.items c.append_both.new.left.items c.self.invariant.0 can c.in_default.ensures.items c.in_ok-starts.ensures c.in_ok-append_both.ensures.left,
-      outlines-pushed held.groups c.push.new.self.items c.args.group c.self.inside.outlines.items c.in_ok-outlines.outlines.items c.append_both.new.right.items c.self.invariant.1 c.in_default.ensures.items c.in_ok-outlines.ensures c.in_ok-append_both.ensures.right,
-    )
+-- with a group without symbols they can be held
+pub append_groups-requires : goal.append_groups-requires
+append_groups-requires g c =
+    let before = c.args.self.now in
+    let one : c.push.new.self.items ≡ c.args.group ∷ [] = c.in_ok-push.ensures.items ∙ ap (λ (gs : List (Group g.row.P.Denot)). gs ++ c.args.group ∷ []) c.in_ok-groups.ensures.items in
+    λ held. subst (λ (gs : List (Group g.row.P.Denot)). CanBeHeld (record before { groups = before.groups ++ gs })) (sym one) (held-group before (starts_of before.groups) c.args.group held c.requires)

@@ -1,11 +1,11 @@
 use Rattle.std.proofs.Common.{◌-◌, ◌<◌, ◌^◌, ◌∙◌, List, ℕ, ap, length, subst, sym}
 use Rattle.link_groups.specs.declared.group.Group.{Group}
 use Rattle.link_files.specs.Adding.{EndsInSynthetic, with_id}
+use Rattle.link_files.specs.Columns.{columns_of}
 use Rattle.link_files.specs.HeldFiles.{HeldFiles, names_in}
 use Rattle.link_files.specs.Numbered.{AreHeld}
-use Rattle.link_files.specs.Outlines.{outlines_of}
 use Rattle.link_files.proofs.Changing.{has-room, held-symbol}
-use Rattle.link_files.proofs.Outlined.{outlines-kept}
+use Rattle.link_files.proofs.Kept.{columns-kept}
 use Rattle.link_files.proofs.files.Files.add_synthetic_symbol.Goals as goal
 
 pub grow_last-requires-clause-room : goal.grow_last-requires-clause-room
@@ -24,5 +24,5 @@ invariant_of-self-2 g c =
     let names = c.in_ok-push.ensures.items in (
       subst (λ (gs : List (Group g.row.P.Denot)). AreHeld {P = g.row.P.Denot} (record { groups = gs; added = c.push.new.self.items }) starts) (sym c.grow_last.ensures)
           (subst (λ (l : List (List ℕ)). AreHeld {P = g.row.P.Denot} (record { groups = with_id held.groups; added = l }) starts) (sym names) all),
-      c.self.invariant.1 ∙ sym (ap (λ (gs : List (Group g.row.P.Denot)). outlines_of gs) c.grow_last.ensures ∙ outlines-kept held.groups last),
+      c.self.invariant.1 ∙ sym (ap (λ (gs : List (Group g.row.P.Denot)). columns_of gs) c.grow_last.ensures ∙ columns-kept held.groups last),
     )

@@ -1,11 +1,11 @@
 use Rattle.std.proofs.Common.{◌≡◌, ◌∙◌, List, ℕ, ap, subst, sym}
 use Rattle.link_groups.specs.declared.group.Group.{Group}
 use Rattle.link_files.specs.Adding.{with_symbol}
+use Rattle.link_files.specs.Columns.{columns_of}
 use Rattle.link_files.specs.HeldFiles.{HeldFiles}
 use Rattle.link_files.specs.Numbered.{AreHeld}
-use Rattle.link_files.specs.Outlines.{outlines_of}
 use Rattle.link_files.proofs.Changing.{held-before, popped}
-use Rattle.link_files.proofs.Outlined.{outlines-kept}
+use Rattle.link_files.proofs.Kept.{columns-kept}
 use Rattle.link_files.proofs.files.Files.remove_synthetic_symbol.Goals as goal
 
 pub invariant_of-self : goal.invariant_of-self
@@ -21,6 +21,6 @@ invariant_of-self g c =
       subst (λ (gs : List (Group g.row.P.Denot)). AreHeld {P = g.row.P.Denot} (record { groups = gs; added = c.pop.new.self.items }) starts) (sym groups)
           (subst (λ (l : List (List ℕ)). AreHeld {P = g.row.P.Denot} (record { groups = before.groups; added = l }) starts) (sym names) old),
       c.self.invariant.1
-          ∙ (ap (λ (h : HeldFiles g.row.P.Denot). outlines_of h.groups) all
-          ∙ (outlines-kept before.groups had.last ∙ sym (ap (λ (gs : List (Group g.row.P.Denot)). outlines_of gs) groups))),
+          ∙ (ap (λ (h : HeldFiles g.row.P.Denot). columns_of h.groups) all
+          ∙ (columns-kept before.groups had.last ∙ sym (ap (λ (gs : List (Group g.row.P.Denot)). columns_of gs) groups))),
     )
