@@ -1,5 +1,4 @@
 pub mod Walk
 pub mod Passing
 pub mod OwnSymbols
-pub mod OnePlace
 pub mod Outlined

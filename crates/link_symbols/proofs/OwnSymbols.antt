@@ -1,16 +1,15 @@
 -- The objects among files, each with its symbols: they are those of all symbols that stand in it.
-use Rattle.std.proofs.Common.{◌≡◌, ◌+◌, ◌<◌, ◌++◌, ◌∙◌, ℕ, zero, suc, List, [], ◌∷◌, Bool, true, false, Some, None, cond, length, map, filter, slice_get, refl, sym, ap, arith, length-append}
+use Rattle.std.proofs.Common.{◌≡◌, ◌+◌, ◌<◌, ◌≤◌, ◌++◌, ◌∙◌, ℕ, zero, suc, List, [], ◌∷◌, Bool, true, false, Some, None, cond, length, map, filter, slice_get, refl, sym, ap, arith, length-append, length-drop}
 use Rattle.std.specs.Prelude.{◌==◌, ◌-◌, drop, take}
 use Rattle.std.specs.List.{cons_option, enumerate_from}
 use Rattle.std.proofs.lemmas.Bool.Decides.{nat_tests}
-use Rattle.std.proofs.lemmas.List.{append-nil, append_assoc}
+use Rattle.std.proofs.lemmas.List.{append-nil, append_assoc, length-take-le}
 use Rattle.std.proofs.lemmas.List.Elements.{filter-append}
 use Rattle.std.proofs.lemmas.Option.{same_Some}
 use Rattle.link_input.specs.InputFiles.{InputFile, prelude, object, linker_script, stub_library, synthetic, object_count, symbol_count}
 use Rattle.link_input.specs.ObjectFile.{ObjectFile}
 use Rattle.link_input.specs.SequencedFiles.{SequencedFile}
 use Rattle.link_input.specs.Symbols.{Symbol, in_prelude, in_script, in_stub, symbol_of, object_symbol, stub_strength, file_symbols, symbols_of, object_in}
-use Rattle.link_groups.proofs.FileTotals.{drop-at}
 use Rattle.link_groups.proofs.Numbering.{own-symbols}
 use Rattle.link_rules.specs.Places.{is_number}
 use Rattle.link_files.specs.Inputs.{object_of}
@@ -177,11 +176,21 @@ objects-more items new all first next files rest f is more on before =
     ∙ (append_assoc items own (objects_from (length items + object_count f.file) (first + symbol_count f.file) (without_ids rest))
     ∙ (ap (λ (l : List SequencedFile). items ++ objects_from (length items) first (without_ids l)) (sym is) ∙ before))))
 
--- the next symbol of a part, and those behind it
-pub part-next : (xs : List Symbol) (start next end left at : ℕ) (x : Symbol) → left ≡ end → 0 < end - start → at ≡ start → next ≡ start + 1 → slice_get xs at ≡ Some x
-    → take (end - start) (drop start xs) ≡ x ∷ take (left - next) (drop next xs)
-part-next xs start next end left at x same some here on is =
-    let count : end - start ≡ suc (left - next) = omega arith in
-    ap (λ n. take n (drop start xs)) count
-    ∙ (ap (take (suc (left - next))) (drop-at xs start x (sym (ap (slice_get xs) here) ∙ is))
-    ∙ ap (λ n. x ∷ take (left - next) (drop n xs)) (sym on))
+-- a part has as many symbols as places
+pub part-length : (xs : List Symbol) (start end : ℕ) → end ≤ length xs → length (take (end - start) (drop start xs)) ≡ end - start
+part-length xs start end inside = length-take-le (end - start) (drop start xs) (omega (arith, inside, length-drop start xs))
+
+-- the symbol at a place of a part
+pub part-at : (xs : List Symbol) (start count at : ℕ) → at < count → slice_get (take count (drop start xs)) at ≡ slice_get xs (start + at)
+part-at xs start count at lt = of-taken (drop start xs) count at lt ∙ of-left xs start at
+  where
+    of-taken : (ys : List Symbol) (n i : ℕ) → i < n → slice_get (take n ys) i ≡ slice_get ys i
+    of-taken ys zero i lt = absurd (omega (arith, lt))
+    of-taken [] (suc n) i lt = refl
+    of-taken (y ∷ ys) (suc n) zero lt = refl
+    of-taken (y ∷ ys) (suc n) (suc i) lt = of-taken ys n i (omega (arith, lt))
+
+    of-left : (ys : List Symbol) (k i : ℕ) → slice_get (drop k ys) i ≡ slice_get ys (k + i)
+    of-left ys zero i = let e : i ≡ 0 + i = omega arith in ap (slice_get ys) e
+    of-left [] (suc k) i = refl
+    of-left (y ∷ ys) (suc k) i = let e : suc (k + i) ≡ suc k + i = omega arith in of-left ys k i ∙ ap (slice_get (y ∷ ys)) e

@@ -1,4 +1,3 @@
 pub mod Views
 pub mod Walk
 pub mod Lookups
-pub mod Sources

@@ -12,8 +12,9 @@ mod targets;
 mod view;
 
 pub use all_symbols::{AllSymbols, symbols};
+pub use link_files::SymbolSource;
 pub use objects::{ObjectSymbols, PartSymbols, object_symbols};
-pub use sources::{SymbolSource, source_of, symbol_sources};
+pub use sources::source_of;
 pub use strengths::{DiscardedSections, surviving_strengths};
 pub use table::{FirstDefinitions, reference_table};
 pub use targets::target_of;

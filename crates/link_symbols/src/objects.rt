@@ -1,12 +1,11 @@
 //! The objects of a link, each with the ids of its symbols.
 
-ghost use Rattle.std.specs.Prelude.{◌≡◌, ◌≤◌, ◌+◌, ◌-◌, ◌^◌, ◌++◌, ℕ, IfOk, OnOk, Some, length, slice_get};
+ghost use Rattle.std.specs.Prelude.{◌≡◌, ◌<◌, ◌≤◌, ◌+◌, ◌-◌, ◌^◌, ◌++◌, ℕ, IfOk, OnOk, Some, length, slice_get};
 ghost use Rattle.link_groups.specs.SequencedInputs.{sequenced_file};
 ghost use Rattle.link_input.specs.InputFiles.{symbol_count};
 ghost use Rattle.link_files.specs.GroupFiles.{symbols_in};
 ghost use Rattle.link_files.specs.Inputs.{objects_in};
-ghost use Rattle.link_symbols.specs.Walk.{GivesFirst, SymbolsLeft, own_symbols, part_of, symbols_of_object, with_ids};
-ghost use Rattle.std.specs.Iterator.{item_count};
+ghost use Rattle.link_symbols.specs.Walk.{SymbolsLeft, own_symbols, part_of, symbols_of_object, with_ids};
 
 use crate::file_list::FileList;
 use crate::view::{SymbolOrigin, SymbolView};
@@ -89,26 +88,35 @@ impl<'a, P: Platform> Model for PartSymbols<'a, P> {
 
     ghost view = { λ s. record { next = s.next; left = take (s.places.end - s.places.start) (drop s.places.start (file_symbols s.place (object s.parsed.now))) } };
 
-    ghost invariant = { λ s. (s.places.end ≤ length (file_symbols s.place (object s.parsed.now))) × (s.next + (s.places.end - s.places.start) ≤ 2 ^ 32) };
+    ghost invariant = { λ s. (s.places.end ≤ length (file_symbols s.place (object s.parsed.now))) × (s.places.end ≤ 2 ^ 32) × (s.next + (s.places.end - s.places.start) ≤ 2 ^ 32) };
 }
 
-impl<'a, P: Platform> Iterator for PartSymbols<'a, P> {
-    type Item = (SymbolId, SymbolView<'a>);
+impl<'a, P: Platform> PartSymbols<'a, P> {
+    /// How many symbols are left.
+    pub fn len(&self) -> usize
+        ensures { result ≡ length self.now.left }
+    {
+        self.places.len()
+    }
 
-    ghost next_gives = { GivesFirst };
+    /// The id of the symbol at this place among those that are left.
+    pub fn id_at(&self, at: usize) -> SymbolId
+        requires { at < length self.now.left }
+        ensures { result ≡ self.now.next + at }
+    {
+        SymbolId::from_usize(self.next + at)
+    }
 
-    ghost remaining = { item_count (λ s. s.left) };
-
-    fn next(&mut self) -> Option<(SymbolId, SymbolView<'a>)> {
-        let at = self.places.next()?;
-        let id = SymbolId::from_usize(self.next);
-        self.next += 1;
-        let symbol = SymbolView::new(SymbolOrigin::Object {
+    /// The symbol at this place among those that are left.
+    pub fn symbol_at(&self, at: usize) -> SymbolView<'a>
+        requires { at < length self.now.left }
+        ensures { slice_get self.now.left at ≡ Some result }
+    {
+        SymbolView::new(SymbolOrigin::Object {
             place: self.place,
             is_dynamic: self.parsed.is_dynamic(),
-            row: self.parsed.object().symbol_at(at),
-        });
-        Some((id, symbol))
+            row: self.parsed.object().symbol_at(self.places.start + at),
+        })
     }
 }
 

@@ -1,7 +1,7 @@
 use Rattle.std.proofs.Common.{rules, ◌≡◌, ◌∙◌, ◌+◌, ◌++◌, List, [], append-nil, ap, arith, false, length, refl, slice_get, slice_index_or, sym}
 use Rattle.std.specs.List.{flat_map}
 use Rattle.std.proofs.lemmas.Option.{get_or_from_slice_get}
-use Rattle.link_files.proofs.Outlined.{outlines-are}
+use Rattle.link_files.proofs.Outlined.{outlines, outlines-are}
 use Rattle.link_files.specs.GroupFiles.{symbols_in}
 use Rattle.link_files.specs.Outlines.{outline_of}
 use Rattle.link_files.specs.declared.outlines.FileOutline.{FileOutline}
@@ -9,7 +9,7 @@ use Rattle.link_groups.specs.Groups.{files_of}
 use Rattle.link_groups.specs.SequencedInputs.{sequenced_file}
 use Rattle.link_input.specs.SequencedFiles.{SequencedFile}
 use Rattle.link_symbols.specs.Walk.{SymbolsLeft, without_ids}
-use Rattle.link_symbols.proofs.Outlined.{left-at, objects-counted-on, outlines}
+use Rattle.link_symbols.proofs.Outlined.{left-at, objects-counted-on}
 use Rattle.link_symbols.proofs.OwnSymbols.{objects-counted, objects-more, objects_from, own-symbols-are}
 use Rattle.link_symbols.proofs.objects.object_symbols.Goals as goal
 

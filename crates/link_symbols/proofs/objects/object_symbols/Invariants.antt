@@ -4,7 +4,7 @@ use Rattle.link_groups.specs.Groups.{files_of}
 use Rattle.link_input.specs.Symbols.{symbols_of}
 use Rattle.link_files.specs.GroupFiles.{symbols_in}
 use Rattle.link_symbols.specs.Walk.{without_ids}
-use Rattle.link_symbols.proofs.Outlined.{outlines}
+use Rattle.link_files.proofs.Outlined.{outlines}
 use Rattle.link_symbols.proofs.OwnSymbols.{objects_from}
 use Rattle.link_symbols.proofs.objects.object_symbols.Given as goal
 
