@@ -38,6 +38,18 @@ impl<'a> SymbolKey<'a> {
         }
     }
 
+    /// The key of a name, and of its version where it has one, whose hash number is known.
+    pub fn with_hash(name: &'a [u8], version: Option<&'a [u8]>, hash: u64) -> Self
+        requires { hash ≡ hash_of (key_of name.now version) }
+        ensures { result ≡ key_of name.now version.entry }
+    {
+        SymbolKey {
+            name,
+            version,
+            hash,
+        }
+    }
+
     /// The name.
     pub fn name(&self) -> &'a [u8]
         ensures { result.now ≡ self.now.name }

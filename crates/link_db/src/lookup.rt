@@ -10,7 +10,8 @@ use link_mapping::MappedNames;
 use std::alloc::{AllocError, Global};
 
 impl<P: Platform> SymbolDb<P> {
-    ghost use Rattle.std.specs.Prelude.{◌≡◌, ◌≢◌, ◌<◌, ◌||◌, ℕ, All, AllPairs, Contains, IfOk, IfSome, Some, length, not};
+    ghost use Rattle.std.specs.Prelude.{◌≡◌, ◌≢◌, ◌<◌, ◌||◌, ℕ, All, AllPairs, Contains, IfOk, IfSome, None, Option, Some, false, length, not};
+    ghost use Rattle.link_buckets.specs.Keys.{hash_of};
     ghost use Rattle.link_flags.specs.Pick.{pick};
     ghost use Rattle.link_files.specs.HeldFiles.{is_shared_in};
     ghost use Rattle.link_mapping.specs.Mapped.{AreHeadsMarked, later_in, later_versioned_in, mapping_of};
@@ -40,6 +41,15 @@ impl<P: Platform> SymbolDb<P> {
         ensures within { IfSome result (λ id. id < length (symbol_names (seen self.now))) }
     {
         self.mapping.mapped(key.hash, key.name, key.version)
+    }
+
+    /// Whether some name, or name and version, with this hash number may be mapped: where the answer is no, none of them is, and a reference to it stands
+    /// for nothing. So who knows the number need not look at the name.
+    pub fn may_have(&self, hash: u64) -> bool
+        ensures { result ≡ false → (name : Bytes) (version : Option Bytes) → hash_of (record { name = name; version = version }) ≡ hash
+            → mapped_in (name_table_of (seen self.now)) name version ≡ None }
+    {
+        self.mapping.may_have(hash)
     }
 
     /// Whether the reference may stand for the symbol: it may be dynamic, or the symbol isn't shared.

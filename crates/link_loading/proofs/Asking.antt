@@ -8,7 +8,7 @@ use Rattle.link_rules.specs.Places.{same_number}
 use Rattle.link_rules.specs.Loading.{request_between}
 use Rattle.link_rules.specs.World.{Stage}
 use Rattle.link_loading.specs.Requests.{requested}
-use Rattle.link_symbols.specs.Sources.{source_of, sources_of}
+use Rattle.link_files.specs.Sources.{source_of, sources_of}
 
 -- no object, whatever is tested
 none-anyway : (b : Bool) → ◌≡◌ {A = Option ℕ} None (cond b None None)

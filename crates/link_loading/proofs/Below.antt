@@ -15,7 +15,7 @@ use Rattle.link_files.specs.Inputs.{object_of, objects_in}
 use Rattle.link_rules.specs.Places.{same_number}
 use Rattle.link_rules.specs.Undefined.{is_weak_symbol}
 use Rattle.link_loading.specs.Requests.{request_by, requested}
-use Rattle.link_symbols.specs.Sources.{source_of, sources_of}
+use Rattle.link_files.specs.Sources.{source_of, sources_of}
 
 -- what is there is the same
 same-some : {X : Type 0} {x y : X} → Some x ≡ Some y → x ≡ y

@@ -17,9 +17,9 @@ use Rattle.link_rules.specs.World.{Stage, object_of}
 use Rattle.link_rules.specs.Rules.{PlatformRules}
 use Rattle.link_db.specs.Database.{Database}
 use Rattle.link_stage.specs.AtStage.{IsAtStage}
-use Rattle.link_symbols.specs.declared.sources.SymbolSource.{SymbolSource}
+use Rattle.link_files.specs.declared.sources.SymbolSource.{SymbolSource}
 use Rattle.link_loading.specs.Objects.{is_kept, kept_marks}
-use Rattle.link_symbols.specs.Sources.{source_of, sources_of}
+use Rattle.link_files.specs.Sources.{source_of, sources_of}
 use Rattle.link_loading.proofs.Below.{object-below}
 use Rattle.link_loading.proofs.Listed.{each-length}
 

@@ -4,8 +4,8 @@ use Rattle.std.specs.Option.{option_and_then}
 use Rattle.link_input.specs.Symbols.{Symbol}
 use Rattle.link_rules.specs.Places.{same_number}
 use Rattle.link_rules.specs.Undefined.{is_weak_symbol}
-use Rattle.link_symbols.specs.declared.sources.SymbolSource.{SymbolSource}
-use Rattle.link_symbols.specs.Sources.{source_of}
+use Rattle.link_files.specs.declared.sources.SymbolSource.{SymbolSource}
+use Rattle.link_files.specs.Sources.{source_of}
 
 -- the object at which a target stands, if it is another one, and not both files are shared
 abbrev pub requested : SymbolSource → SymbolSource → Option ℕ

@@ -4,10 +4,9 @@ ghost use Rattle.std.specs.Prelude.{◌≡◌, ◌||◌, ◌<◌, ◌≤◌, ℕ
 ghost use Rattle.std.specs.List.{list_any};
 ghost use Rattle.std.specs.Option.{option_and_then};
 ghost use Rattle.link_closure.specs.Closure.{is_marked};
-ghost use Rattle.link_files.specs.GroupFiles.{symbols_in};
 ghost use Rattle.link_files.specs.Inputs.{objects_in};
 ghost use Rattle.link_loader.specs.Holds.{platform_of};
-ghost use Rattle.link_symbols.specs.Sources.{sources_of};
+ghost use Rattle.link_files.specs.Sources.{sources_of};
 ghost use Rattle.link_rules.specs.Loading.{holds_name, is_root};
 ghost use Rattle.link_rules.specs.Names.{first_definition};
 ghost use Rattle.link_rules.specs.Places.{Bytes, is_number};
@@ -72,16 +71,14 @@ pub fn root_objects<P: Platform>(
     alloc: Global,
     db: &SymbolDb<P>,
     loaded_before: &[bool],
-    sources: &[SymbolSource],
 ) -> Result<Vec<bool>, AllocError>
     requires loaded { length loaded_before.now ≤ length (objects_in (seen db.now).mapping.files.groups) }
-    requires sources { sources.now ≡ sources_of (symbols_in (seen db.now).mapping.files.groups) }
     ensures each { IfOk result (λ roots. length roots.items ≡ length (objects_in (seen db.now).mapping.files.groups)) }
     ensures roots { IfOk result (λ roots. (demangle : Bytes → Bytes) (w : Stage) → IsAtStage (platform_of P.Platform) demangle (seen db.now) w
         → w.earlier.loaded ≡ loaded_before.now → (f : ℕ) → is_marked roots.items f ≡ is_root w f) }
 {
     let mut roots = object_marks(alloc, db.files(), loaded_before)?;
     let names = root_names(alloc, db)?;
-    mark_holders(db, sources, &mut roots, &names);
+    mark_holders(db, db.files().sources(), &mut roots, &names);
     Ok(roots)
 }

@@ -31,7 +31,7 @@ impl<P: Platform> Drop for SymbolMapping<P> {
 }
 
 impl<P: Platform> SymbolMapping<P> {
-    ghost use Rattle.std.specs.Prelude.{◌<◌, ◌≢◌, ℕ, [], List, All, AllPairs, Contains, IfOk, IfSome, None, Some, length, option_map, take};
+    ghost use Rattle.std.specs.Prelude.{◌<◌, ◌≢◌, ℕ, [], List, All, AllPairs, Contains, IfOk, IfSome, None, Some, false, length, option_map, take};
     ghost use Rattle.std.specs.Option.{option_map_or};
     ghost use Rattle.link_buckets.specs.Keys.{Key, hash_of, key_of};
     ghost use Rattle.link_files.specs.HeldFiles.{names_in};
@@ -82,6 +82,13 @@ impl<P: Platform> SymbolMapping<P> {
     {
         let number = self.buckets.mapped(&self.tables, hash, name, version)?;
         Some(SymbolId::from_usize(number as usize))
+    }
+
+    /// Whether some name, or name and version, with this hash number may be mapped: where the answer is no, none of them is.
+    pub fn may_have(&self, hash: u64) -> bool
+        ensures { result ≡ false → (key : Key) → hash_of key ≡ hash → mapped_key (seen self.now) key ≡ None }
+    {
+        self.buckets.may_have(hash)
     }
 
     /// Each plain name that is mapped to a symbol, with the symbol, in no promised order. Mirrors the iterator of Wild's

@@ -8,3 +8,4 @@ pub mod AnswerLink
 pub mod AnswerFlags
 pub mod Reading
 pub mod Requests
+pub mod Unasked

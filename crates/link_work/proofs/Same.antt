@@ -17,8 +17,8 @@ use Rattle.link_rules.specs.Work.{item_count, item_of, item_size, new_marks, new
 use Rattle.link_rules.specs.World.{Stage, is_reference, is_shared_at}
 use Rattle.link_symbols.specs.Walk.{SymbolsLeft, with_ids}
 use Rattle.link_loading.specs.Requests.{request_by, requested}
-use Rattle.link_symbols.specs.Sources.{source_of, sources_of}
-use Rattle.link_symbols.specs.declared.sources.SymbolSource.{SymbolSource}
+use Rattle.link_files.specs.Sources.{source_of, sources_of}
+use Rattle.link_files.specs.declared.sources.SymbolSource.{SymbolSource}
 use Rattle.link_loading.proofs.Asking.{asked-by, tested}
 use Rattle.link_work.specs.Asked.{Known, is_shared_by, mark_by, marks_by, requests_by}
 use Rattle.link_work.specs.Items.{all_items, part_at, parts_of, symbols_at}

@@ -20,8 +20,8 @@ use Rattle.link_rules.proofs.Settled.{here_or_there, nothing_in, none_some, some
 use Rattle.link_symbols.specs.Lookups.{target_at}
 use Rattle.link_symbols.specs.Walk.{SymbolsLeft}
 use Rattle.link_loading.specs.Requests.{request_by}
-use Rattle.link_symbols.specs.Sources.{sources_of}
-use Rattle.link_symbols.specs.declared.sources.SymbolSource.{SymbolSource}
+use Rattle.link_files.specs.Sources.{sources_of}
+use Rattle.link_files.specs.declared.sources.SymbolSource.{SymbolSource}
 use Rattle.link_loading.proofs.Below.{request-below}
 use Rattle.link_work.specs.declared.items.WorkItem.{WorkItem}
 use Rattle.link_work.specs.Asked.{Known, is_shared_by, mark_by, marks_by, new_target, requests_by}

@@ -5,7 +5,7 @@ use Rattle.std.specs.Option.{option_map_or}
 use Rattle.link_claim.specs.Seats.{Ending, flags_in}
 use Rattle.link_closure.specs.Closure.{is_marked}
 use Rattle.link_input.specs.Symbols.{Symbol}
-use Rattle.link_symbols.specs.Sources.{sources_of}
+use Rattle.link_files.specs.Sources.{sources_of}
 use Rattle.link_rules.specs.Places.{each_from}
 use Rattle.link_rules.specs.Targets.{target}
 use Rattle.link_rules.specs.Work.{symbols_with_ids}

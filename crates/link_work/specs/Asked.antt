@@ -1,5 +1,5 @@
 -- What the symbols of items stand for and ask for, told by where symbols stand, by what earlier batches settled, and by what names mean.
-use Rattle.std.specs.Prelude.{◌≡◌, ℕ, List, map, Bool, false, Option, None, if◌then◌else◌, is_some, option_map, option_to_list, slice_get}
+use Rattle.std.specs.Prelude.{◌≡◌, ℕ, List, map, Bool, false, Option, None, Some, if◌then◌else◌, is_some, option_map, option_to_list, slice_get}
 use Rattle.std.specs.List.{flat_map}
 use Rattle.std.specs.Option.{option_map_or}
 use Rattle.link_closure.specs.declared.workload.Mark.{Mark}
@@ -8,7 +8,9 @@ use Rattle.link_rules.specs.Marking.{reference_flags}
 use Rattle.link_rules.specs.Targets.{is_open, target_in}
 use Rattle.link_rules.specs.World.{is_reference}
 use Rattle.link_symbols.specs.Lookups.{target_at}
-use Rattle.link_symbols.specs.declared.sources.SymbolSource.{SymbolSource}
+use Rattle.link_files.specs.GroupFiles.{symbols_in}
+use Rattle.link_files.specs.Sources.{sources_of}
+use Rattle.link_files.specs.declared.sources.SymbolSource.{SymbolSource}
 use Rattle.link_loading.specs.Requests.{request_by}
 use Rattle.link_db.specs.Database.{Database, name_table_of}
 use Rattle.link_work.specs.declared.found.FoundItem.{FoundItem}
@@ -21,16 +23,24 @@ pub record Known : Type 0 where
   pub target : Symbol → Option ℕ
 
 -- what is known by a database, on a platform that lets weak definitions pass by common ones or not
-abbrev pub known_by : {P : Type 0} → Bool → Database P → List SymbolSource → List (Option ℕ) → Known
-known_by weak_overrides_common db sources settled = record {
-  sources = sources;
+abbrev pub known_by : {P : Type 0} → Bool → Database P → List (Option ℕ) → Known
+known_by weak_overrides_common db settled = record {
+  sources = sources_of (symbols_in db.mapping.files.groups);
   settled = settled;
   target = λ x. target_in weak_overrides_common (name_table_of db) (is_open x) x.name x.version;
 }
 
--- what a symbol stands for anew, where it is a reference: what an earlier batch settled is done
+-- these are symbols of all, each with its id
+abbrev pub ArePart : List Symbol → List (ℕ × Symbol) → Type 0
+ArePart all symbols = (at : ℕ) (s : ℕ × Symbol) → slice_get symbols at ≡ Some s → slice_get all s.0 ≡ Some s.1
+
+-- what a symbol means, where it is a reference
+abbrev pub meant : Known → Symbol → Option ℕ
+meant known x = if is_reference x then known.target x else None
+
+-- what a symbol stands for anew: what an earlier batch settled is done
 abbrev pub new_target : Known → ℕ × Symbol → Option ℕ
-new_target known s = if is_some (target_at known.settled s.0) then None else (if is_reference s.1 then known.target s.1 else None)
+new_target known s = if is_some (target_at known.settled s.0) then None else meant known s.1
 
 -- whether the symbol of this id stands in a shared file
 abbrev pub is_shared_by : List SymbolSource → ℕ → Bool

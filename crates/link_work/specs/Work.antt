@@ -14,7 +14,7 @@ use Rattle.link_work.specs.Planned.{planned}
 
 -- what is known by its database
 abbrev pub known_of : {P : Type 0} {G : Ghosts P} → LinkPlan P G → Known
-known_of {P} {G} p = known_by (platform_of G).weak_overrides_common (seen p.db.now) p.sources.items p.settled.now
+known_of {P} {G} p = known_by (platform_of G).weak_overrides_common (seen p.db.now) p.settled.now
 
 -- its work
 abbrev pub work_of : {P : Type 0} {G : Ghosts P} → LinkPlan P G → Workload

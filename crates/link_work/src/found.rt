@@ -1,11 +1,13 @@
 //! What is found in an item: which objects it requests, and what its references stand for.
 
-ghost use Rattle.std.specs.Prelude.{◌≡◌, ◌<◌, ◌++◌, ◌∷◌, [], List, IfOk, IfSome, OnOk, length, map, option_to_list};
+ghost use Rattle.std.specs.Prelude.{◌≡◌, ℕ, ◌<◌, ◌++◌, ◌∷◌, [], List, IfOk, IfSome, None, OnOk, Option, Some, length, map, option_to_list, slice_get};
+ghost use Rattle.link_buckets.specs.Keys.{hash_of};
+ghost use Rattle.link_files.specs.GroupFiles.{symbols_in};
+ghost use Rattle.link_input.specs.Symbols.{Symbol};
+ghost use Rattle.link_symbols.specs.Lookups.{target_at};
 ghost use Rattle.link_symbols.specs.Walk.{with_ids};
-ghost use Rattle.link_db.specs.Database.{symbol_names};
 ghost use Rattle.link_db.specs.Seen.{seen};
-ghost use Rattle.link_symbols.specs.declared.sources.SymbolSource.{SymbolSource};
-ghost use Rattle.link_work.specs.Asked.{IsFoundIn, found_mark, found_target, is_shared_by, known_by, mark_by, marks_by, new_target, requests_by, targets_by};
+ghost use Rattle.link_work.specs.Asked.{ArePart, IsFoundIn, found_mark, found_target, is_shared_by, known_by, mark_by, marks_by, meant, new_target, requests_by, targets_by};
 
 use link_db::SymbolDb;
 use link_flags::ValueFlags;
@@ -46,23 +48,39 @@ fn is_shared_by(sources: &[SymbolSource], symbol: SymbolId) -> bool
     }
 }
 
-/// What a symbol stands for anew, where it is a reference: nothing if an earlier batch settled it.
-fn new_target<P: Platform>(
+/// The hash number of the name that a symbol may ask for anew. None where it stands for nothing anew: it asks for no name, an earlier batch settled
+/// it, or nothing has such a name. So the tables of such symbols are left alone.
+fn asked_anew<P: Platform>(
     db: &SymbolDb<P>,
     settled: &[Option<SymbolId>],
     id: SymbolId,
-    symbol: &SymbolView,
-) -> Option<SymbolId>
-    ensures value { (sources : List SymbolSource) → result ≡ new_target (known_by P.WEAK_SYMBOLS_OVERRIDE_COMMON (seen db.now) sources settled.now) (id, symbol.now) }
-    ensures within { IfSome result (λ t. t < length (symbol_names (seen db.now))) }
+) -> Option<u64>
+    ensures none { result ≡ None → (x : Symbol) → slice_get (symbols_in (seen db.now).mapping.files.groups) id ≡ Some x
+        → new_target (known_by P.WEAK_SYMBOLS_OVERRIDE_COMMON (seen db.now) settled.now) (id, x) ≡ None }
+    ensures number { IfSome result (λ n. (x : Symbol) → slice_get (symbols_in (seen db.now).mapping.files.groups) id ≡ Some x
+        → n ≡ hash_of (record { name = x.name; version = x.version })) }
+    ensures anew { IfSome result (λ _. target_at settled.now id ≡ None) }
 {
-    if target_of(settled, id).is_some() {
+    let hash = (*db.files().asked_numbers().get(id.as_usize())?)?;
+    if target_of(settled, id).is_some() || !db.may_have(hash) {
         return None;
     }
+    Some(hash)
+}
+
+/// What a symbol stands for by the names of all batches so far, where it is a reference. The hash number is that of its name, or of its name and version.
+fn reference_target<P: Platform>(
+    db: &SymbolDb<P>,
+    symbol: &SymbolView,
+    hash: u64,
+) -> Option<SymbolId>
+    requires hashed { hash ≡ hash_of (record { name = symbol.now.name; version = symbol.now.version }) }
+    ensures { (settled : List (Option ℕ)) → result ≡ meant (known_by P.WEAK_SYMBOLS_OVERRIDE_COMMON (seen db.now) settled) symbol.now }
+{
     if !symbol.is_reference() {
         return None;
     }
-    looked_up(db, symbol)
+    looked_up(db, symbol, hash)
 }
 
 /// Adds the object that a symbol requests, if it requests one.
@@ -108,52 +126,51 @@ impl FoundItem {
     }
 }
 
-/// Adds what a symbol asks for.
-fn read_symbol<P: Platform>(
+/// Adds what the symbol at a place of these asks for, which are symbols of the database.
+fn read_at<P: Platform>(
     db: &SymbolDb<P>,
-    sources: &[SymbolSource],
     settled: &[Option<SymbolId>],
-    id: SymbolId,
-    symbol: &SymbolView,
+    symbols: &PartSymbols<'_, P>,
+    at: usize,
     requests: &mut Vec<usize>,
     references: &mut Vec<FoundReference>,
 ) -> Result<(), AllocError>
-    ensures requests { OnOk result (requests.new.items ≡ requests.old.items
-        ++ requests_by (known_by P.WEAK_SYMBOLS_OVERRIDE_COMMON (seen db.now) sources.now settled.now) (id, symbol.now)) }
-    ensures targets { OnOk result (map found_target references.new.items ≡ map found_target references.old.items
-        ++ targets_by (known_by P.WEAK_SYMBOLS_OVERRIDE_COMMON (seen db.now) sources.now settled.now) (id, symbol.now)) }
-    ensures marks { OnOk result (map found_mark references.new.items ≡ map found_mark references.old.items
-        ++ marks_by (known_by P.WEAK_SYMBOLS_OVERRIDE_COMMON (seen db.now) sources.now settled.now) (id, symbol.now)) }
+    requires at { at < length symbols.now.left }
+    requires own { ArePart (symbols_in (seen db.now).mapping.files.groups) (with_ids symbols.now) }
+    ensures requests { OnOk result ((s : ℕ × Symbol) → slice_get (with_ids symbols.now) at ≡ Some s
+        → requests.new.items ≡ requests.old.items ++ requests_by (known_by P.WEAK_SYMBOLS_OVERRIDE_COMMON (seen db.now) settled.now) s) }
+    ensures targets { OnOk result ((s : ℕ × Symbol) → slice_get (with_ids symbols.now) at ≡ Some s
+        → map found_target references.new.items ≡ map found_target references.old.items ++ targets_by (known_by P.WEAK_SYMBOLS_OVERRIDE_COMMON (seen db.now) settled.now) s) }
+    ensures marks { OnOk result ((s : ℕ × Symbol) → slice_get (with_ids symbols.now) at ≡ Some s
+        → map found_mark references.new.items ≡ map found_mark references.old.items ++ marks_by (known_by P.WEAK_SYMBOLS_OVERRIDE_COMMON (seen db.now) settled.now) s) }
 {
-    if let Some(target) = new_target(db, settled, id, symbol) {
-        push_request(requests, request_by(sources, symbol, Some(target)))?;
-        push_reference(references, sources, id, symbol, target)?;
+    let id = symbols.id_at(at);
+    let Some(hash) = asked_anew(db, settled, id) else {
+        return Ok(());
+    };
+    let symbol = symbols.symbol_at(at);
+    if let Some(target) = reference_target(db, &symbol, hash) {
+        let sources = db.files().sources();
+        push_request(requests, request_by(sources, &symbol, Some(target)))?;
+        push_reference(references, sources, id, &symbol, target)?;
     }
     Ok(())
 }
 
-/// What is found in symbols of an object. The only refusal is want of memory.
+/// What is found in symbols of an object, which are symbols of the database. The only refusal is want of memory.
 pub(crate) fn read_symbols<P: Platform>(
     alloc: Global,
     db: &SymbolDb<P>,
-    sources: &[SymbolSource],
     settled: &[Option<SymbolId>],
-    symbols: PartSymbols<'_, P>,
+    symbols: &PartSymbols<'_, P>,
 ) -> Result<FoundItem, AllocError>
-    ensures found { IfOk result (IsFoundIn (known_by P.WEAK_SYMBOLS_OVERRIDE_COMMON (seen db.now) sources.now settled.now) (with_ids symbols.entry)) }
+    requires own { ArePart (symbols_in (seen db.now).mapping.files.groups) (with_ids symbols.now) }
+    ensures found { IfOk result (IsFoundIn (known_by P.WEAK_SYMBOLS_OVERRIDE_COMMON (seen db.now) settled.now) (with_ids symbols.now)) }
 {
     let mut requests = Vec::new(alloc);
     let mut references = Vec::new(alloc);
-    for (id, symbol) in symbols {
-        read_symbol(
-            db,
-            sources,
-            settled,
-            id,
-            &symbol,
-            &mut requests,
-            &mut references,
-        )?;
+    for at in 0..symbols.len() {
+        read_at(db, settled, symbols, at, &mut requests, &mut references)?;
     }
     Ok(FoundItem {
         requests,

@@ -1,11 +1,13 @@
 //! The plan of a link.
 
-ghost use Rattle.std.specs.Prelude.{◌≡◌, filter, length, map};
+ghost use Rattle.std.specs.Prelude.{◌≡◌, ℕ, Some, filter, length, map, slice_get};
 ghost use Rattle.std.specs.List.{range_with_len};
 ghost use Rattle.link_claim.specs.Workload.{FitsU32};
 ghost use Rattle.link_closure.specs.Closure.{is_marked};
 ghost use Rattle.link_closure.specs.Workload.{IsSound};
+ghost use Rattle.link_files.specs.GroupFiles.{symbols_in};
 ghost use Rattle.link_pool.specs.Marks.{mark_of_pair};
+ghost use Rattle.link_symbols.specs.Walk.{SymbolsLeft, symbols_of_object, with_ids};
 ghost use Rattle.link_db.specs.Database.{symbol_names};
 ghost use Rattle.link_db.specs.Seen.{seen};
 ghost use Rattle.link_work.specs.Asked.{known_by};
@@ -17,7 +19,7 @@ use link_db::SymbolDb;
 use link_flags::ValueFlags;
 use link_ids::SymbolId;
 use link_input::Platform;
-use link_symbols::{ObjectSymbols, SymbolSource};
+use link_symbols::ObjectSymbols;
 
 /// The work of a link over its database, as threads share it: items of the objects' tables, what is loaded whatever refers to it, and the
 /// flags with which symbols begin. What an item asks for is looked up as it is read.
@@ -25,7 +27,6 @@ pub struct LinkPlan<'a, P: Platform> {
     pub(crate) db: &'a SymbolDb<P>,
     /// What the references of earlier batches stand for.
     pub(crate) settled: &'a [Option<SymbolId>],
-    pub(crate) sources: Vec<SymbolSource>,
     pub(crate) objects: Vec<ObjectSymbols<'a, P>>,
     pub(crate) items: Vec<WorkItem>,
     /// The number of the first item of each object.
@@ -40,9 +41,10 @@ pub struct LinkPlan<'a, P: Platform> {
     ghost begun: { length opening.items ≡ length (symbol_names (seen db.now)) },
     ghost rooted: { roots.items ≡ filter (is_marked is_root.items) (range_with_len 0 (length is_root.items)) },
     ghost each: { length is_root.items ≡ length objects.items },
-    ghost is_sound: { IsSound (planned (known_by P.WEAK_SYMBOLS_OVERRIDE_COMMON (seen db.now) sources.items settled.now) objects.items items.items roots.items
+    ghost own: { (f : ℕ) (o : SymbolsLeft) → slice_get objects.items f ≡ Some o → with_ids o ≡ symbols_of_object f (symbols_in (seen db.now).mapping.files.groups) },
+    ghost is_sound: { IsSound (planned (known_by P.WEAK_SYMBOLS_OVERRIDE_COMMON (seen db.now) settled.now) objects.items items.items roots.items
         (map mark_of_pair root_marks.items) opening.items) },
-    ghost does_fit: { FitsU32 (planned (known_by P.WEAK_SYMBOLS_OVERRIDE_COMMON (seen db.now) sources.items settled.now) objects.items items.items roots.items
+    ghost does_fit: { FitsU32 (planned (known_by P.WEAK_SYMBOLS_OVERRIDE_COMMON (seen db.now) settled.now) objects.items items.items roots.items
         (map mark_of_pair root_marks.items) opening.items) },
 }
 
@@ -52,7 +54,6 @@ impl<P: Platform> Drop for LinkPlan<'_, P> {
         let Self {
             db: _,
             settled: _,
-            sources: _,
             objects: _,
             items: _,
             firsts: _,

@@ -27,7 +27,7 @@ use link_ids::SymbolId;
 use link_input::Platform;
 use link_loading::{referred_names, root_objects};
 use link_pool::Readable;
-use link_symbols::{object_symbols, symbol_sources};
+use link_symbols::object_symbols;
 use std::alloc::{AllocError, Global};
 
 impl<'a, P: Platform> LinkPlan<'a, P> {
@@ -52,18 +52,16 @@ impl<'a, P: Platform> LinkPlan<'a, P> {
     {
         targets_are_symbols(db);
         let opening = opening_bits(alloc, flags, db.num_symbols())?;
-        let sources = symbol_sources(alloc, db.files())?;
         let objects = object_symbols(alloc, db.files())?;
         let items = work_items(alloc, &objects)?;
         let firsts = first_items(alloc, &objects)?;
-        let is_root = root_objects(alloc, db, loaded, &sources)?;
+        let is_root = root_objects(alloc, db, loaded)?;
         let roots = marked_places(alloc, &is_root)?;
         let names = referred_names(alloc, db)?;
         let root_marks = marks_of_names(alloc, db, &names)?;
         Ok(LinkPlan {
             db,
             settled,
-            sources,
             objects,
             items,
             firsts,
@@ -144,7 +142,7 @@ impl<'a, P: Platform> Readable for LinkPlan<'a, P> {
 
     fn read(&self, alloc: Global, item: usize) -> Result<FoundItem, AllocError> {
         match item_symbols(&self.objects, self.items[item]) {
-            Some(symbols) => read_symbols(alloc, self.db, &self.sources, self.settled, symbols),
+            Some(symbols) => read_symbols(alloc, self.db, self.settled, &symbols),
             None => Ok(FoundItem::none(alloc)),
         }
     }

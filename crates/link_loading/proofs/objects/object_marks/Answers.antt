@@ -1,13 +1,12 @@
 use Rattle.std.proofs.Common.{◌≡◌, ◌∙◌, ◌++◌, ◌<◌, ◌≤◌, List, append-nil, ap, arith, false, get_or, length, subst, sym}
 use Rattle.std.proofs.lemmas.List.{drop_all}
 use Rattle.std.specs.List.{flat_map}
-use Rattle.link_files.proofs.Outlined.{outlines-are}
 use Rattle.link_files.specs.Inputs.{objects_in}
 use Rattle.link_files.specs.declared.outlines.FileOutline.{FileOutline}
 use Rattle.link_groups.specs.Groups.{files_of}
 use Rattle.link_input.specs.SequencedFiles.{SequencedFile}
 use Rattle.link_rules.specs.Places.{each_from}
-use Rattle.link_symbols.proofs.Outlined.{file-at, get_or_default, length-outlines, outlines}
+use Rattle.link_files.proofs.Outlined.{file-at, get_or_default, length-outlines, outlines, outlines-are}
 use Rattle.link_symbols.specs.Walk.{objects_among}
 use Rattle.link_loading.specs.Objects.{is_kept, kept_marks}
 use Rattle.link_loading.proofs.GroupObjects.{marks-more}

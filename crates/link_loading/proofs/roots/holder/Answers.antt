@@ -6,7 +6,7 @@ use Rattle.link_rules.specs.Places.{Bytes}
 use Rattle.link_rules.specs.World.{object_of}
 use Rattle.link_mapping.specs.Mapped.{mapping_of}
 use Rattle.link_db.specs.Seen.{seen}
-use Rattle.link_symbols.specs.declared.sources.SymbolSource.{SymbolSource}
+use Rattle.link_files.specs.declared.sources.SymbolSource.{SymbolSource}
 use Rattle.link_loading.proofs.Rooted.{object-there}
 use Rattle.link_loading.proofs.roots.holder.Goals as goal
 

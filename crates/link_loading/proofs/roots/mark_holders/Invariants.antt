@@ -8,7 +8,7 @@ use Rattle.link_rules.specs.Places.{Bytes}
 use Rattle.link_rules.specs.World.{Stage}
 use Rattle.link_db.specs.Seen.{seen}
 use Rattle.link_stage.specs.AtStage.{IsAtStage}
-use Rattle.link_symbols.specs.Sources.{sources_of}
+use Rattle.link_files.specs.Sources.{sources_of}
 use Rattle.link_loading.proofs.roots.mark_holders.Given as goal
 
 -- the marks so far, and those of the names that are left

@@ -5,6 +5,7 @@ use Rattle.std.proofs.lemmas.Grind.{common_steps}
 use Rattle.link_closure.specs.Closure.{is_marked}
 use Rattle.link_input.specs.ObjectFile.{ObjectFile}
 use Rattle.link_input.specs.Symbols.{Symbol}
+use Rattle.link_files.specs.GroupFiles.{symbols_in}
 use Rattle.link_files.specs.HeldFiles.{HeldFiles}
 use Rattle.link_files.specs.Inputs.{objects_in}
 use Rattle.link_loader.specs.Holds.{platform_of}
@@ -12,7 +13,7 @@ use Rattle.link_rules.specs.Loading.{holds_name, root_names}
 use Rattle.link_rules.specs.Places.{Bytes}
 use Rattle.link_db.specs.Seen.{seen}
 use Rattle.link_loading.specs.Objects.{is_kept, kept_marks}
-use Rattle.link_symbols.specs.Sources.{sources_of}
+use Rattle.link_files.specs.Sources.{sources_of}
 use Rattle.link_loading.proofs.Listed.{each-length}
 use Rattle.link_loading.proofs.Rooted.{has-objects, roots-are}
 use Rattle.link_loading.proofs.roots.root_objects.Goals as goal
@@ -34,7 +35,8 @@ returns-clause-roots g c = λ demangle w at loaded f.
     let earlier = c.args.loaded_before.now in
     let old = c.deref_mut.result.now in
     let marks = c.mark_holders.new.marks in
-    let sources : c.args.sources.now ≡ sources_of w.symbols = c.requires.sources ∙ ap (λ (symbols : List Symbol). sources_of symbols) (sym at.symbols) in
+    let sources : c.sources.result.now ≡ sources_of w.symbols = c.sources.ensures
+    ∙ (ap (λ (h : HeldFiles g.row.P.Denot). sources_of (symbols_in h.groups)) c.files-2.ensures ∙ ap (λ (symbols : List Symbol). sources_of symbols) (sym at.symbols)) in
     let kept : old ≡ kept_marks w.earlier.loaded w.objects =
     c.deref_mut.ensures.value ∙ (c.in_ok-roots.ensures
     ∙ (ap (λ (h : HeldFiles g.row.P.Denot). kept_marks earlier (objects_in h.groups)) c.files.ensures

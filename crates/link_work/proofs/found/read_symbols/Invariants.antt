@@ -1,4 +1,4 @@
-use Rattle.std.proofs.Common.{◌≡◌, ◌++◌, map}
+use Rattle.std.proofs.Common.{◌≡◌, ◌++◌, drop, map}
 use Rattle.std.specs.List.{flat_map}
 use Rattle.link_symbols.specs.Walk.{with_ids}
 use Rattle.link_db.specs.Seen.{seen}
@@ -6,9 +6,9 @@ use Rattle.link_work.specs.Asked.{found_mark, found_target, known_by, marks_by, 
 use Rattle.link_work.proofs.found.read_symbols.Given as goal
 
 -- what was found so far, and what the symbols that are left give
-abbrev pub invariant-loop-id : goal.invariant-loop-id
-invariant-loop-id g l =
-    let known = known_by g.P.Platform.WEAK_SYMBOLS_OVERRIDE_COMMON (seen l.db) l.sources l.settled in
-    (l.requests.items ++ flat_map (requests_by known) (with_ids l.id-iterator) ≡ flat_map (requests_by known) (with_ids l.initial.id-iterator))
-    × (map found_target l.references.items ++ flat_map (targets_by known) (with_ids l.id-iterator) ≡ flat_map (targets_by known) (with_ids l.initial.id-iterator))
-    × (map found_mark l.references.items ++ flat_map (marks_by known) (with_ids l.id-iterator) ≡ flat_map (marks_by known) (with_ids l.initial.id-iterator))
+abbrev pub invariant-loop-at : goal.invariant-loop-at
+invariant-loop-at g l =
+    let known = known_by g.P.Platform.WEAK_SYMBOLS_OVERRIDE_COMMON (seen l.db) l.settled in
+    (l.requests.items ++ flat_map (requests_by known) (drop l.at (with_ids l.symbols)) ≡ flat_map (requests_by known) (with_ids l.symbols))
+    × (map found_target l.references.items ++ flat_map (targets_by known) (drop l.at (with_ids l.symbols)) ≡ flat_map (targets_by known) (with_ids l.symbols))
+    × (map found_mark l.references.items ++ flat_map (marks_by known) (drop l.at (with_ids l.symbols)) ≡ flat_map (marks_by known) (with_ids l.symbols))

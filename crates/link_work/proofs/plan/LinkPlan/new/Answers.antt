@@ -1,4 +1,4 @@
-use Rattle.std.proofs.Common.{◌≡◌, ◌<◌, ◌∙◌, ◌++◌, ◌^◌, ℕ, Bool, Some, slice_get, List, Contains, IfSome, ap, arith, filter, length, map, slice_index, subst, sym}
+use Rattle.std.proofs.Common.{◌≡◌, ◌<◌, ◌∙◌, ◌++◌, ◌^◌, ℕ, Bool, Some, slice_get, List, Contains, IfSome, ap, arith, filter, length, map, refl, slice_index, subst, sym}
 use Rattle.std.specs.Prelude.{option_to_list}
 use Rattle.std.specs.List.{range_with_len}
 use Rattle.std.proofs.lemmas.List.Elements.{All-contains, filter_agree}
@@ -27,7 +27,7 @@ use Rattle.link_rules.proofs.Members.{map_from, range_from}
 use Rattle.link_rules.proofs.Settled.{filtered}
 use Rattle.link_stage.proofs.Tables.{stands-for}
 use Rattle.link_symbols.specs.Walk.{SymbolsLeft, symbols_of_object, with_ids}
-use Rattle.link_symbols.specs.Sources.{sources_of}
+use Rattle.link_files.specs.Sources.{sources_of}
 use Rattle.link_loader.specs.Holds.{platform_of}
 use Rattle.link_db.specs.Database.{symbol_names}
 use Rattle.link_db.specs.Seen.{seen}
@@ -44,7 +44,7 @@ pub invariant_of-result : goal.invariant_of-result
 invariant_of-result g c =
     let db = seen c.args.db.now in
     let groups = db.mapping.files.groups in
-    let known : Known = known_by g.P.Platform.WEAK_SYMBOLS_OVERRIDE_COMMON db c.in_ok-sources.sources.items c.args.settled.now in
+    let known : Known = known_by g.P.Platform.WEAK_SYMBOLS_OVERRIDE_COMMON db c.args.settled.now in
     let objects : List SymbolsLeft = c.in_ok-objects.objects.items in
     let roots = c.in_ok-roots.roots.items in
     let marks = c.in_ok-is_root.is_root.items in
@@ -52,11 +52,11 @@ invariant_of-result g c =
     let opening : List ℕ = c.in_ok-opening.opening.items in
     let n = length (symbol_names db) in
     let items : c.in_ok-items.items.items ≡ all_items 0 objects = c.in_ok-items.ensures ∙ ap (all_items 0) c.deref.ensures.value in
-    let stand : known.sources ≡ sources_of (symbols_in groups) = c.in_ok-sources.ensures ∙ ap (λ (h : HeldFiles g.row.P.Denot). sources_of (symbols_in h.groups)) c.files.ensures in
-    let count : length objects ≡ length (objects_in groups) = c.in_ok-objects.ensures.each ∙ ap (λ (h : HeldFiles g.row.P.Denot). length (objects_in h.groups)) c.files-2.ensures in
+    let stand : known.sources ≡ sources_of (symbols_in groups) = refl in
+    let count : length objects ≡ length (objects_in groups) = c.in_ok-objects.ensures.each ∙ ap (λ (h : HeldFiles g.row.P.Denot). length (objects_in h.groups)) c.files.ensures in
     let each : length marks ≡ length objects = c.in_ok-is_root.ensures.each ∙ sym count in
     let rooted : roots ≡ filter (is_marked marks) (range_with_len 0 (length marks)) =
-    c.in_ok-roots.ensures ∙ ap (λ (ms : List Bool). filter (is_marked ms) (range_with_len 0 (length ms))) c.deref-4.ensures.value in
+    c.in_ok-roots.ensures ∙ ap (λ (ms : List Bool). filter (is_marked ms) (range_with_len 0 (length ms))) c.deref-3.ensures.value in
     let begun : length opening ≡ n =
     ap (λ (l : List ℕ). length l) c.in_ok-opening.ensures.bits ∙ (length-map-range_with_len (slice_index (numbers_of (words_of c.args.flags.now))) 0 c.num_symbols.result ∙ c.num_symbols.ensures.value) in
     let root : (f : ℕ) → Contains roots f → f < length objects = λ f within.
@@ -76,6 +76,7 @@ invariant_of-result g c =
       begun = begun;
       rooted = rooted;
       each = each;
+      own = λ f o is. c.in_ok-objects.ensures.symbols f o is ∙ ap (λ (h : HeldFiles g.row.P.Denot). symbols_of_object f (symbols_in h.groups)) c.files.ensures;
       is_sound = subst (λ (its : List WorkItem). IsSound (planned known objects its roots root_marks opening)) (sym items)
           (plan-sound known objects roots root_marks opening groups stand count root root_mark means);
       does_fit = subst (λ (its : List WorkItem). FitsU32 (planned known objects its roots root_marks opening)) (sym items)
@@ -86,40 +87,39 @@ invariant_of-result g c =
 pub returns : goal.returns
 returns g c = record {
   known = λ demangle w at settled. record {
-    sources = c.in_ok-sources.ensures ∙ (ap (λ (h : HeldFiles g.row.P.Denot). sources_of (symbols_in h.groups)) c.files.ensures ∙ ap sources_of (sym at.symbols));
+    sources = ap sources_of (sym at.symbols);
     settled = sym settled;
     target = λ x. stands-for (platform_of g.P.Platform) demangle (seen c.args.db.now) w at x;
   };
   objects = λ demangle w at. record {
-    count = c.in_ok-objects.ensures.each ∙ (ap (λ (h : HeldFiles g.row.P.Denot). length (objects_in h.groups)) c.files-2.ensures ∙ ap (λ (os : List ObjectFile). length os) (sym at.objects));
+    count = c.in_ok-objects.ensures.each ∙ (ap (λ (h : HeldFiles g.row.P.Denot). length (objects_in h.groups)) c.files.ensures ∙ ap (λ (os : List ObjectFile). length os) (sym at.objects));
     symbols = λ f o is.
-        c.in_ok-objects.ensures.symbols f o is ∙ (ap (λ (h : HeldFiles g.row.P.Denot). symbols_of_object f (symbols_in h.groups)) c.files-2.ensures ∙ ap (symbols_of_object f) (sym at.symbols));
+        c.in_ok-objects.ensures.symbols f o is ∙ (ap (λ (h : HeldFiles g.row.P.Denot). symbols_of_object f (symbols_in h.groups)) c.files.ensures ∙ ap (symbols_of_object f) (sym at.symbols));
   };
   symbols =
       ap (λ (l : List ℕ). length l) c.in_ok-opening.ensures.bits ∙ (length-map-range_with_len (slice_index (numbers_of (words_of c.args.flags.now))) 0 c.num_symbols.result ∙ c.num_symbols.ensures.value);
   work = λ demangle w at loaded settled.
       let db = seen c.args.db.now in
       let groups = db.mapping.files.groups in
-      let known : Known = known_by g.P.Platform.WEAK_SYMBOLS_OVERRIDE_COMMON db c.in_ok-sources.sources.items c.args.settled.now in
+      let known : Known = known_by g.P.Platform.WEAK_SYMBOLS_OVERRIDE_COMMON db c.args.settled.now in
       let objects : List SymbolsLeft = c.in_ok-objects.objects.items in
       let roots = c.in_ok-roots.roots.items in
       let marks = c.in_ok-is_root.is_root.items in
       let root_marks : List Mark = map mark_of_pair c.in_ok-root_marks.root_marks.items in
       let opening : List ℕ = c.in_ok-opening.opening.items in
       let items : c.in_ok-items.items.items ≡ all_items 0 objects = c.in_ok-items.ensures ∙ ap (all_items 0) c.deref.ensures.value in
-      let stand : known.sources ≡ sources_of w.symbols =
-      c.in_ok-sources.ensures ∙ (ap (λ (h : HeldFiles g.row.P.Denot). sources_of (symbols_in h.groups)) c.files.ensures ∙ ap sources_of (sym at.symbols)) in
+      let stand : known.sources ≡ sources_of w.symbols = ap sources_of (sym at.symbols) in
       let count : length objects ≡ length w.objects =
-      c.in_ok-objects.ensures.each ∙ (ap (λ (h : HeldFiles g.row.P.Denot). length (objects_in h.groups)) c.files-2.ensures ∙ ap (λ (os : List ObjectFile). length os) (sym at.objects)) in
+      c.in_ok-objects.ensures.each ∙ (ap (λ (h : HeldFiles g.row.P.Denot). length (objects_in h.groups)) c.files.ensures ∙ ap (λ (os : List ObjectFile). length os) (sym at.objects)) in
       let each : length marks ≡ length w.objects = c.in_ok-is_root.ensures.each ∙ ap (λ (os : List ObjectFile). length os) (sym at.objects) in
       let have : (f : ℕ) (o : SymbolsLeft) → slice_get objects f ≡ Some o → with_ids o ≡ symbols_with_ids w f = λ f o is.
-      c.in_ok-objects.ensures.symbols f o is ∙ (ap (λ (h : HeldFiles g.row.P.Denot). symbols_of_object f (symbols_in h.groups)) c.files-2.ensures ∙ ap (symbols_of_object f) (sym at.symbols)) in
+      c.in_ok-objects.ensures.symbols f o is ∙ (ap (λ (h : HeldFiles g.row.P.Denot). symbols_of_object f (symbols_in h.groups)) c.files.ensures ∙ ap (symbols_of_object f) (sym at.symbols)) in
       let rooted : roots ≡ filter (is_root w) (object_places w) =
-      c.in_ok-roots.ensures ∙ (ap (λ (ms : List Bool). filter (is_marked ms) (range_with_len 0 (length ms))) c.deref-4.ensures.value
+      c.in_ok-roots.ensures ∙ (ap (λ (ms : List Bool). filter (is_marked ms) (range_with_len 0 (length ms))) c.deref-3.ensures.value
       ∙ (ap (λ n. filter (is_marked marks) (range_with_len 0 n)) each ∙ filter_agree (is_marked marks) (is_root w) (c.in_ok-is_root.ensures.roots demangle w at loaded) (object_places w))) in
       let mapping : mapping_of db.mapping ≡ first_definition w = λ i. λ name. at.names name i in
       let marked = c.in_ok-root_marks.ensures.marks
-      ∙ (ap (λ (ns : List Bytes). marks_on_names (mapping_of db.mapping) ns) (c.deref-5.ensures.value ∙ c.in_ok-names.ensures demangle w at)
+      ∙ (ap (λ (ns : List Bytes). marks_on_names (mapping_of db.mapping) ns) (c.deref-4.ensures.value ∙ c.in_ok-names.ensures demangle w at)
       ∙ ap (λ (m : Mapping). marks_on_names m (option_to_list (entry_name w) ++ redirect_targets w)) mapping) in
       ap (λ (its : List WorkItem). planned known objects its roots root_marks opening) items
       ∙ (planned-is w known objects roots root_marks opening stand (sym settled) (λ x. stands-for (platform_of g.P.Platform) demangle db w at x) count have rooted marked

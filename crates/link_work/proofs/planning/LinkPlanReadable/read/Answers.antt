@@ -3,13 +3,24 @@ use Rattle.std.specs.Option.{option_map_or}
 use Rattle.std.proofs.lemmas.Option.{same_Some, slice_get_read, slice_get_within}
 use Rattle.link_input.specs.Symbols.{Symbol}
 use Rattle.link_symbols.specs.Walk.{SymbolsLeft, with_ids}
-use Rattle.link_symbols.specs.declared.sources.SymbolSource.{SymbolSource}
 use Rattle.link_db.specs.Seen.{seen}
-use Rattle.link_work.specs.Asked.{IsFoundIn, known_by}
+use Rattle.link_files.specs.GroupFiles.{symbols_in}
+use Rattle.link_work.specs.Asked.{ArePart, IsFoundIn}
 use Rattle.link_work.specs.Items.{symbols_of_item}
 use Rattle.link_work.specs.Work.{found_in, known_of}
 use Rattle.link_work.proofs.Told.{nothing-found, ok-each}
+use Rattle.link_work.proofs.Unasked.{item_part}
 use Rattle.link_work.proofs.planning.LinkPlanReadable.read.Goals as goal
+
+-- the symbols of the item are symbols of the database
+pub read_symbols-requires : goal.read_symbols-requires
+read_symbols-requires g c =
+    let plan = c.args.self.now in
+    let z = c.index.result.now in
+    let all = symbols_in (seen plan.db.now).mapping.files.groups in
+    let same : with_ids c.in-Some.symbols ≡ symbols_of_item plan.objects.items z =
+    ap (λ o. option_map_or with_ids o []) (sym c.in-Some.is) ∙ (c.item_symbols.ensures ∙ ap (λ (os : List SymbolsLeft). symbols_of_item os z) c.deref.ensures.value) in
+    record { own = subst (λ (l : List (ℕ × Symbol)). ArePart all l) (sym same) (item_part plan.objects.items all plan.own z) }
 
 -- what is found in the symbols of the item
 pub returns-in-Some : goal.returns-in-Some
@@ -18,7 +29,7 @@ returns-in-Some g c =
     let z = c.index.result.now in
     let items = plan.items.items in
     ok-each c.read_symbols.result (IsFoundIn (known_of plan) (with_ids c.in-Some.symbols)) (found_in plan c.args.item)
-    (subst (λ (ss : List SymbolSource). IfOk c.read_symbols.result (IsFoundIn (known_by g.P.Platform.WEAK_SYMBOLS_OVERRIDE_COMMON (seen plan.db.now) ss plan.settled.now) (with_ids c.in-Some.symbols))) c.deref-in-Some.ensures.value c.read_symbols.ensures.found)
+    c.read_symbols.ensures.found
     (λ found is it at.
     let same : z ≡ it = same_Some z it (sym (slice_get_read items (length items) c.args.item z refl (slice_get_within items c.args.item it at) c.index.ensures) ∙ at) in
     subst (λ (l : List (ℕ × Symbol)). IsFoundIn (known_of plan) l found)
