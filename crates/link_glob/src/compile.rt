@@ -3,7 +3,7 @@
 ghost use Rattle.std.specs.Prelude.{◌≡◌, ◌==◌, ◌<◌, ◌≤◌, false, length, position, IfOk, IfSome};
 ghost use Rattle.std.specs.Str.{chars};
 ghost use Rattle.link_glob.specs.declared.compile.Dialect.TheVariants.{Gnu, MachO};
-ghost use Rattle.link_glob.specs.Glob.{views, view_token};
+ghost use Rattle.link_glob.specs.Glob.{class, views, view_token};
 ghost use Rattle.link_glob.specs.Grammar.{ranges_of, with_marks};
 ghost use Rattle.link_glob.specs.Reading.{Gives, class_from, class_at, star_at, token_at, Reads, ReadsBytes};
 ghost use Rattle.link_glob.specs.Compile.{Compiles, IsGlob, glob_of};
@@ -26,7 +26,7 @@ pub enum Dialect {
 fn ranges_of(alloc: Global, content: &[char]) -> Result<Vec<CharRange>, AllocError>
     ensures { IfOk result (λ v. v.items ≡ ranges_of content.now) }
 {
-    let mut ranges = Vec::new(alloc);
+    let mut ranges = Vec::with_capacity(alloc, content.len())?;
     let mut rest = content;
     loop {
         match rest {
@@ -57,6 +57,15 @@ fn close_of(text: &[char]) -> Option<usize>
     text.iter().position(|c| *c == ']')
 }
 
+/// The class of this content.
+fn class_of(alloc: Global, negated: bool, content: &[char]) -> Result<Token, AllocError>
+    ensures { IfOk result (λ t. view_token t ≡ class negated (ranges_of content.now)) }
+{
+    let ranges = ranges_of(alloc, content)?;
+    let class = Box::new(alloc, Class { negated, ranges })?;
+    Ok(Token::Class(class))
+}
+
 /// A class from its first character on, and the text after its end.
 fn class_from(alloc: Global, negated: bool, text: &[char]) -> Result<(Token, &[char]), GlobError>
     ensures gives { Gives (λ x. (view_token x.0, x.1.now)) result (class_from negated text.now) }
@@ -72,8 +81,7 @@ fn class_from(alloc: Global, negated: bool, text: &[char]) -> Result<(Token, &[c
     let [_, rest @ ..] = closed else {
         return Err(GlobError::InvalidGlob);
     };
-    let ranges = ranges_of(alloc, content)?;
-    Ok((Token::Class(Class { negated, ranges }), rest))
+    Ok((class_of(alloc, negated, content)?, rest))
 }
 
 /// A class behind its opening bracket, and the text after its end.
@@ -120,7 +128,7 @@ fn token_at(alloc: Global, dialect: Dialect, text: &[char]) -> Result<(Token, &[
 fn tokens_of(alloc: Global, dialect: Dialect, text: &[char]) -> Result<Vec<Token>, GlobError>
     ensures { Reads dialect text.now (λ v. views v.items) result }
 {
-    let mut tokens = Vec::new(alloc);
+    let mut tokens = Vec::with_capacity(alloc, text.len())?;
     let mut rest = text;
     'tokens: while !rest.is_empty() {
         let (token, after) = token_at(alloc, dialect, rest)?;
@@ -134,7 +142,7 @@ fn tokens_of(alloc: Global, dialect: Dialect, text: &[char]) -> Result<Vec<Token
 fn characters(alloc: Global, text: &str) -> Result<Vec<char>, AllocError>
     ensures { IfOk result (λ v. v.items ≡ with_marks (chars text.now)) }
 {
-    let mut out = Vec::new(alloc);
+    let mut out = Vec::with_capacity(alloc, text.len())?;
     let mut rest = text;
     let mut opened = false;
     'chars: while let Some((c, after)) = split_first_char(rest) {

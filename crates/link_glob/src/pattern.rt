@@ -22,6 +22,17 @@ pub struct Class {
     pub ranges: Vec<CharRange>,
 }
 
+impl Clone for Class {
+    ghost is_clone = { λ x y. (y.negated ≡ x.negated) × (y.ranges.items ≡ x.ranges.items) };
+
+    fn clone(&self) -> Result<Class, AllocError> {
+        Ok(Class {
+            negated: self.negated,
+            ranges: self.ranges.clone()?,
+        })
+    }
+}
+
 /// A piece of a pattern.
 #[derive(Debug, Drop)]
 pub enum Token {
@@ -31,8 +42,8 @@ pub enum Token {
     One,
     /// Any run of characters, the empty one too.
     Any,
-    /// One character of the class.
-    Class(Class),
+    /// One character of the class, which stands apart, so that the other tokens are small.
+    Class(Box<Class>),
 }
 
 impl Clone for Token {
@@ -43,10 +54,7 @@ impl Clone for Token {
             Token::Literal(c) => Ok(Token::Literal(*c)),
             Token::One => Ok(Token::One),
             Token::Any => Ok(Token::Any),
-            Token::Class(class) => Ok(Token::Class(Class {
-                negated: class.negated,
-                ranges: class.ranges.clone()?,
-            })),
+            Token::Class(class) => Ok(Token::Class(class.clone()?)),
         }
     }
 }

@@ -8,7 +8,7 @@ use Rattle.link_glob.proofs.compile.tokens_of.Goals as goal
 
 pub returns-in_err-token : goal.returns-in_err-token
 returns-in_err-token c =
-    let p = err_from_is_err_and c.from_residual.result c.from_residual.ensures.1 in
+    let p = err_from_is_err_and c.from_residual-in_err-token.result c.from_residual-in_err-token.ensures.1 in
     rw (p.1, p.2) (read_fault c.in_err-token.field-0.0 c.args.dialect c.args.text.now (views c.tokens.tokens.items) c.tokens.rest.now (λ e. let n = ap (λ (xs : List ℕ). length xs == 0) e in let t = c.tokens-test.true in cc) c.in_err-token.ensures.gives c.tokens.invariant)
 
 pub tokens-preserved : goal.tokens-preserved
