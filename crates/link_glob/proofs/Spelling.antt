@@ -1,5 +1,5 @@
 -- Reading tokens one after the other.
-use Rattle.std.proofs.Common.{◌≡◌, ℕ, suc, ◌-◌, ◌+◌, ◌==◌, take, ◌≤◌, Bool, List, [], ◌∷◌, ◌++◌, length, drop, Some, None, refl, sym, ap, subst, ◌∙◌, append_assoc, take_all, add-one, zero, arith}
+use Rattle.std.proofs.Common.{◌≡◌, ℕ, suc, ◌-◌, ◌+◌, ◌==◌, take, ◌≤◌, Bool, true, false, List, [], ◌∷◌, ◌++◌, length, drop, Some, None, refl, sym, ap, subst, ◌∙◌, append_assoc, take_all, add-one, zero, arith}
 use Rattle.std.specs.Prelude.{position}
 use Rattle.std.proofs.lemmas.List.{append-nil}
 use Rattle.std.proofs.lemmas.Option.{some_pair_parts}
@@ -51,6 +51,10 @@ pub read_fault : (e : GlobError) (dialect : Dialect) (text : List ℕ) (done : L
 read_fault errors.InvalidGlob dialect text done rest more is so_far = read_refused dialect text done rest more is so_far
 read_fault errors.InvalidUtf8 dialect text done rest more is so_far = is
 read_fault errors.Memory dialect text done rest more is so_far = tt
+
+-- a text that has a first character is not empty
+pub not_empty : (b : Bool) (xs : List ℕ) → b ≡ (length xs == 0) → b ≡ false → xs ≡ [] → ⊥
+not_empty b xs is more e = absurd (let k : true ≡ false = sym (is ∙ ap (λ (l : List ℕ). length l == 0) e) ∙ more in cc)
 
 drop_next : (n : ℕ) (text : List ℕ) (x : ℕ) (rest : List ℕ) → drop n text ≡ x ∷ rest → drop (suc n) text ≡ rest
 drop_next zero [] x rest e = absurd cc

@@ -1,7 +1,8 @@
 //! Patterns from bytes.
 
-ghost use Rattle.std.specs.Prelude.{◌≡◌, ◌==◌, ◌<◌, ◌≤◌, false, length, position, IfOk, IfSome};
+ghost use Rattle.std.specs.Prelude.{◌≡◌, ◌==◌, ◌<◌, ◌≤◌, false, length, position, Some, IfOk, IfSome};
 ghost use Rattle.std.specs.Str.{chars};
+ghost use Rattle.link_glob.specs.declared.compile.Dialect.{Dialect};
 ghost use Rattle.link_glob.specs.declared.compile.Dialect.TheVariants.{Gnu, MachO};
 ghost use Rattle.link_glob.specs.Glob.{class, views, view_token};
 ghost use Rattle.link_glob.specs.Grammar.{ranges_of, with_marks};
@@ -124,6 +125,20 @@ fn token_at(alloc: Global, dialect: Dialect, text: &[char]) -> Result<(Token, &[
     }
 }
 
+/// The first token where one character spells it, whatever the dialect, and the text after it. Most tokens
+/// are so, and those that need memory or may be refused don't slow them down.
+fn split_simple(text: &[char]) -> Option<(Token, &[char])>
+    ensures token { IfSome result (λ r. (dialect : Dialect) → token_at dialect text.now ≡ Some (view_token r.0, r.1.now)) }
+    ensures shorter { IfSome result (λ r. length r.1.now < length text.now) }
+{
+    match text {
+        [] | ['*', '*', ..] | ['[', ..] => None,
+        ['*', after @ ..] => Some((Token::Any, after)),
+        ['?', after @ ..] => Some((Token::One, after)),
+        [c, after @ ..] => Some((Token::Literal(*c), after)),
+    }
+}
+
 /// All tokens of the text.
 fn tokens_of(alloc: Global, dialect: Dialect, text: &[char]) -> Result<Vec<Token>, GlobError>
     ensures { Reads dialect text.now (λ v. views v.items) result }
@@ -131,6 +146,11 @@ fn tokens_of(alloc: Global, dialect: Dialect, text: &[char]) -> Result<Vec<Token
     let mut tokens = Vec::with_capacity(alloc, text.len())?;
     let mut rest = text;
     'tokens: while !rest.is_empty() {
+        if let Some((token, after)) = split_simple(rest) {
+            tokens.push(token)?;
+            rest = after;
+            continue;
+        }
         let (token, after) = token_at(alloc, dialect, rest)?;
         tokens.push(token)?;
         rest = after;
