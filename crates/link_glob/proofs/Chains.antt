@@ -1,5 +1,5 @@
 -- Going back from one glob with a key to the one before it.
-use Rattle.std.proofs.Common.{◌≡◌, max, subst, ◌<◌, ◌≤◌, ◌==◌, ◌&&◌, le_of_lt, ℕ, zero, suc, Bool, true, false, cond, if◌then◌else◌, nat_eq, List, [], ◌∷◌, ◌++◌, length, Option, Some, None, slice_get, ◌⊎◌, inl, inr, ⊎_elim, eq-or-lt_of_le, le_of_suc-le-suc, refl, sym, ap, ◌∙◌, arith}
+use Rattle.std.proofs.Common.{◌≡◌, max, subst, ◌<◌, ◌≤◌, ◌==◌, ◌&&◌, le_of_lt, ℕ, zero, suc, Bool, true, false, cond, if◌then◌else◌, nat_eq, List, [], ◌∷◌, ◌++◌, ◌+◌, length, Option, Some, None, slice_get, ◌⊎◌, inl, inr, ⊎_elim, eq-or-lt_of_le, le_of_suc-le-suc, refl, sym, ap, ◌∙◌, arith}
 use Rattle.std.specs.HashMap.{get}
 use Rattle.std.proofs.lemmas.Bool.{eqb-true}
 use Rattle.std.proofs.lemmas.List.{length-append}
@@ -7,7 +7,7 @@ use Rattle.std.proofs.lemmas.Option.{slice_get_within}
 use Rattle.link_glob.specs.declared.glob_index.GlobIndex.{GlobIndex}
 use Rattle.link_glob.specs.Glob.{GlobToken}
 use Rattle.link_glob.specs.GlobList.{last_of, fits_at}
-use Rattle.link_glob.specs.GlobKey.{IsFiledWithin, IsIndexOf, back_length, front_length, key_of, has_key, is_under, last_under}
+use Rattle.link_glob.specs.GlobKey.{IsFiledWithin, IsIndexOf, IsWholeIndexOf, filed, back_length, front_length, key_of, has_key, is_under, last_under}
 use Rattle.link_glob.proofs.LastOf.{same, below, passes, chained, none}
 
 -- one more than a number, where there is one
@@ -82,6 +82,15 @@ added globs old new glob before is there last items was front back = record {
     filed_at : (n : ℕ) → (n < length old.earlier.items) ⊎ (n ≡ length old.earlier.items) → IsFiledWithin new.longest_front new.longest_back (slice_get globs n)
     filed_at n (inl l) = wider (slice_get globs n) (is.within n l)
     filed_at n (inr e) = rw (e, there) (omega (arith, front), omega (arith, back))
+
+-- the next glob behind all
+pub grown : (globs : List (List GlobToken)) (old new : GlobIndex) (glob : List GlobToken)
+    → ((globs : List (List GlobToken)) → IsIndexOf globs old → slice_get globs (filed old) ≡ Some glob → IsIndexOf globs new) → filed new ≡ filed old + 1
+    → IsWholeIndexOf globs old → IsWholeIndexOf (globs ++ glob ∷ []) new
+grown globs old new glob kept more is = record {
+  found = kept (globs ++ glob ∷ []) (pushed globs glob old is.found) (ap (slice_get (globs ++ glob ∷ [])) is.all ∙ at_end globs glob);
+  all = omega (arith, more, is.all, length-append globs (glob ∷ []));
+}
 
 -- on the way back through the globs with a key, the place is that of the last one before some number, and what is found
 -- before that number is what is found in all

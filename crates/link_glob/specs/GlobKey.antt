@@ -68,6 +68,10 @@ last_under globs key name n = last_of (λ k. is_under globs key k && fits_at glo
 abbrev pub last_under_some : List (List GlobToken) → ℕ → List ℕ → List ℕ → ℕ → Option ℕ
 last_under_some globs key text name n = last_of (λ k. is_under_some globs key text k && fits_at globs name k) n
 
+-- how many globs are in the index
+abbrev pub filed : GlobIndex → ℕ
+filed index = length index.earlier.items
+
 -- the first globs are found by the index: of each key the last one, and from each one the one before it; no key is of
 -- more characters than the longest
 pub record IsIndexOf (globs : List (List GlobToken)) (index : GlobIndex) : Type 0 where
@@ -75,3 +79,8 @@ pub record IsIndexOf (globs : List (List GlobToken)) (index : GlobIndex) : Type 
   pub last : (key : ℕ) → get nat_eq index.last key ≡ last_of (is_under globs key) (length index.earlier.items)
   pub earlier : (key n : ℕ) → n < length index.earlier.items → is_under globs key n ≡ true → slice_get index.earlier.items n ≡ Some (last_of (is_under globs key) n)
   pub within : (n : ℕ) → n < length index.earlier.items → IsFiledWithin index.longest_front index.longest_back (slice_get globs n)
+
+-- so are all of them
+pub record IsWholeIndexOf (globs : List (List GlobToken)) (index : GlobIndex) : Type 0 where
+  pub found : IsIndexOf globs index
+  pub all : filed index ≡ length globs

@@ -1,22 +1,24 @@
 //! An index over a list of globs, by the characters that a glob begins or ends with.
 
-ghost use Rattle.std.specs.Prelude.{◌≡◌, ◌∷◌, ◌++◌, [], ◌≤◌, ◌+◌, length, reverse, slice_get, take, OnOk, Some};
+ghost use Rattle.std.specs.Prelude.{◌≡◌, ◌∷◌, ◌++◌, [], ◌≤◌, ◌+◌, List, length, reverse, slice_get, take, OnOk, Some};
 ghost use Rattle.std.specs.Option.{MatchOption};
 ghost use Rattle.std.specs.Str.{chars};
 ghost use Rattle.link_glob.specs.GlobList.{last_of, fits_at, later};
-ghost use Rattle.link_glob.specs.GlobKey.{IsIndexOf, front_key, back_key, last_under, last_under_some};
+ghost use Rattle.link_glob.specs.Glob.{GlobToken};
+ghost use Rattle.link_glob.specs.GlobKey.{IsIndexOf, IsWholeIndexOf, filed, front_key, back_key, last_under, last_under_some};
 
 use crate::glob_key::{BACK_KEY, FRONT_KEY, key_of, key_with};
+use crate::globs::Globs;
 use crate::matching::{split_first_char, split_last_char};
 use crate::pattern::Pattern;
 use std::alloc::{AllocError, Global};
 use std::collections::HashMap;
 
-/// The first globs of a list by their keys. A look-up asks for the key of each front of a name, and of each of its
+/// The first of some globs by their keys; the globs stand elsewhere. A look-up asks for the key of each front of a name, and of each of its
 /// ends, as long as some glob is filed by so many characters, and looks at the globs with one key from the last one
 /// back. Keys may coincide: a glob that is found is compared with the name.
 #[derive(Drop)]
-pub(crate) struct GlobIndex {
+pub struct GlobIndex {
     /// The number of the last glob of each key.
     last: HashMap<u64, usize>,
     /// Of each glob the number of the one before it that has its key.
@@ -39,8 +41,8 @@ fn later(first: Option<usize>, second: Option<usize>) -> Option<usize>
 
 impl GlobIndex {
     /// The index of no globs. Takes no memory.
-    pub(crate) fn new(alloc: Global) -> GlobIndex
-        ensures { IsIndexOf [] result }
+    pub fn new(alloc: Global) -> GlobIndex
+        ensures { IsWholeIndexOf [] result }
     {
         GlobIndex {
             last: HashMap::new(alloc),
@@ -52,19 +54,19 @@ impl GlobIndex {
 
     /// How many globs are in it.
     pub(crate) fn len(&self) -> usize
-        ensures { result ≡ length self.now.earlier.items }
+        ensures { result ≡ filed self.now }
     {
         self.earlier.len()
     }
 
     /// The last glob with this key that fits the name.
-    fn last_under(&self, globs: &[Pattern], key: u64, name: &str) -> Option<usize>
-        requires { IsIndexOf globs.now self.now }
-        ensures { result ≡ last_under globs.now key (chars name.now) (length self.now.earlier.items) }
+    fn last_under<G: Globs>(&self, globs: &G, key: u64, name: &str) -> Option<usize>
+        requires { IsIndexOf (G.globs globs.now) self.now }
+        ensures { result ≡ last_under (G.globs globs.now) key (chars name.now) (filed self.now) }
     {
         let mut place = self.last.get(&key).copied();
         'places: while let Some(at) = place {
-            if globs.get(at)?.matches(name) {
+            if globs.fits(at, name) {
                 return Some(at);
             }
             place = *self.earlier.get(at)?;
@@ -73,9 +75,9 @@ impl GlobIndex {
     }
 
     /// The last glob under the key of some front of the name that fits the name, as far as fronts are filed.
-    fn last_by_front(&self, globs: &[Pattern], name: &str) -> Option<usize>
-        requires { IsIndexOf globs.now self.now }
-        ensures { result ≡ last_under_some globs.now front_key (take self.now.longest_front (chars name.now)) (chars name.now) (length self.now.earlier.items) }
+    fn last_by_front<G: Globs>(&self, globs: &G, name: &str) -> Option<usize>
+        requires { IsIndexOf (G.globs globs.now) self.now }
+        ensures { result ≡ last_under_some (G.globs globs.now) front_key (take self.now.longest_front (chars name.now)) (chars name.now) (filed self.now) }
     {
         let mut key = FRONT_KEY;
         let mut found = None;
@@ -96,9 +98,9 @@ impl GlobIndex {
     }
 
     /// The last glob under the key of some end of the name that fits the name, as far as ends are filed.
-    fn last_by_back(&self, globs: &[Pattern], name: &str) -> Option<usize>
-        requires { IsIndexOf globs.now self.now }
-        ensures { result ≡ last_under_some globs.now back_key (take self.now.longest_back (reverse (chars name.now))) (chars name.now) (length self.now.earlier.items) }
+    fn last_by_back<G: Globs>(&self, globs: &G, name: &str) -> Option<usize>
+        requires { IsIndexOf (G.globs globs.now) self.now }
+        ensures { result ≡ last_under_some (G.globs globs.now) back_key (take self.now.longest_back (reverse (chars name.now))) (chars name.now) (filed self.now) }
     {
         let mut key = BACK_KEY;
         let mut found = None;
@@ -119,9 +121,9 @@ impl GlobIndex {
     }
 
     /// The last glob in the index that fits the name.
-    pub(crate) fn last_match(&self, globs: &[Pattern], name: &str) -> Option<usize>
-        requires { IsIndexOf globs.now self.now }
-        ensures { result ≡ last_of (fits_at globs.now (chars name.now)) (length self.now.earlier.items) }
+    pub fn last_match<G: Globs>(&self, globs: &G, name: &str) -> Option<usize>
+        requires { IsIndexOf (G.globs globs.now) self.now }
+        ensures { result ≡ last_of (fits_at (G.globs globs.now) (chars name.now)) (filed self.now) }
     {
         if self.earlier.is_empty() {
             return None;
@@ -132,12 +134,10 @@ impl GlobIndex {
         )
     }
 
-    /// Adds the next glob.
-    fn add(&mut self, globs: &[Pattern], glob: &Pattern) -> Result<(), AllocError>
-        requires indexed { IsIndexOf globs.now self.old }
-        requires there { slice_get globs.now (length self.old.earlier.items) ≡ Some glob.now }
-        ensures kept { IsIndexOf globs.now self.new }
-        ensures added { OnOk result (length self.new.earlier.items ≡ length self.old.earlier.items + 1) }
+    /// Adds the first glob that isn't in it.
+    fn file(&mut self, glob: &Pattern) -> Result<(), AllocError>
+        ensures kept { (globs : List (List GlobToken)) → IsIndexOf globs self.old → slice_get globs (filed self.old) ≡ Some glob.now → IsIndexOf globs self.new }
+        ensures added { OnOk result (filed self.new ≡ filed self.old + 1) }
     {
         self.earlier.reserve(1)?;
         let place = self.earlier.len();
@@ -149,13 +149,21 @@ impl GlobIndex {
         Ok(())
     }
 
+    /// Adds a glob behind those that are in it.
+    pub fn add(&mut self, glob: &Pattern) -> Result<(), AllocError>
+        ensures { OnOk result ((globs : List (List GlobToken)) → IsWholeIndexOf globs self.old → IsWholeIndexOf (globs ++ glob.now ∷ []) self.new) }
+    {
+        self.file(glob)?;
+        Ok(())
+    }
+
     /// Adds the globs that aren't in it.
     pub(crate) fn add_all(&mut self, globs: &[Pattern]) -> Result<(), AllocError>
         requires { IsIndexOf globs.now self.old }
         ensures { IsIndexOf globs.now self.new }
     {
-        'globs: while let Some(glob) = globs.get(self.earlier.len()) {
-            self.add(globs, glob)?;
+        'globs: while let Some(glob) = globs.get(self.len()) {
+            self.file(glob)?;
         }
         Ok(())
     }

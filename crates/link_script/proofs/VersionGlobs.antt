@@ -1,21 +1,24 @@
 -- The globs of all versions: where one more version is noted, and what is found among them.
-use Rattle.std.proofs.Common.{◌≡◌, ℕ, zero, suc, ◌+◌, ◌<◌, ◌≤◌, Bool, true, false, ◌||◌, if◌then◌else◌, List, [], ◌∷◌, ◌++◌, length, replicate, slice_get, Option, Some, None, refl, sym, ap, ap₂, ◌∙◌, arith}
+use Rattle.std.proofs.Common.{◌≡◌, ℕ, zero, suc, ◌+◌, ◌<◌, ◌≤◌, Bool, true, false, ◌||◌, if◌then◌else◌, List, [], ◌∷◌, ◌++◌, length, map, replicate, slice_get, subst, Option, Some, None, refl, sym, ap, ap₂, ◌∙◌, arith}
 use Rattle.std.specs.Option.{option_and_then, option_map, is_some}
 use Rattle.std.specs.Str.{chars}
-use Rattle.std.proofs.lemmas.List.{length-append, length-replicate, length_push}
+use Rattle.std.proofs.lemmas.List.{length-append, length-replicate, length_push, map-append}
+use Rattle.std.proofs.lemmas.Option.{slice_get-map}
 use Rattle.std.proofs.lemmas.Bool.{lt-ltb, le-ltb}
 use Rattle.link_glob.specs.Glob.{GlobToken}
+use Rattle.link_glob.specs.GlobKey.{IsWholeIndexOf, filed}
 use Rattle.link_glob.specs.GlobList.{last_of, fits_at, fits_name, last_fit}
 use Rattle.link_syntax.specs.declared.body.Side.{Side}
 use Rattle.link_syntax.specs.declared.body.Side.TheVariants.{Global, Local}
 use Rattle.link_script.specs.declared.rules.Version.{Version}
 use Rattle.link_script.specs.declared.rules.Class.{Class}
 use Rattle.link_script.specs.declared.rules.Class.TheVariants.{Exact, Nonstar, Star, Every}
+use Rattle.link_script.specs.declared.version_globs.GlobPlace.{GlobPlace}
 use Rattle.link_script.specs.declared.version_globs.VersionGlobs.{VersionGlobs}
 use Rattle.link_script.specs.Filter.{rules_of}
 use Rattle.link_script.specs.Lookup.{Asked, text_of}
 use Rattle.link_script.specs.Rules.{globs_in, has_glob, placed, side_at, last_in}
-use Rattle.link_script.specs.VersionGlobs.{Owner, globs_at, owners_at, globs_below, owners_below, AreGlobsOf, section_at, found_below, global_first, stronger, IsGlobClass}
+use Rattle.link_script.specs.VersionGlobs.{Owner, globs_at, globs_below, places_from, places_at, places_below, AreGlobsOf, section_at, found_below, global_first, stronger, IsGlobClass}
 use Rattle.link_glob.proofs.LastOf.{below, same}
 use Rattle.link_glob.proofs.Chains as chains
 use Rattle.link_script.proofs.Globs.{some_fits}
@@ -99,6 +102,16 @@ owner_alone globs o name = one_owner o (length globs) (last_fit globs name) (λ 
 
 -- ---- the globs of the versions below a number
 
+-- what has each of the globs of a version
+abbrev owners_at : Class → Bool → ℕ → Option Version → List Owner
+owners_at class cxx n None = []
+owners_at class cxx n (Some v) = replicate (length (globs_in class (rules_of v Local cxx))) (n, Local) ++ replicate (length (globs_in class (rules_of v Global cxx))) (n, Global)
+
+-- what has each of the globs of the versions below n
+abbrev owners_below : List Version → Class → Bool → ℕ → List Owner
+owners_below versions class cxx zero = []
+owners_below versions class cxx (suc n) = owners_below versions class cxx n ++ owners_at class cxx n (slice_get versions n)
+
 as_long_at : (class : Class) (cxx : Bool) (n : ℕ) (v : Option Version) → length (globs_at class cxx v) ≡ length (owners_at class cxx n v)
 as_long_at class cxx n None = refl
 as_long_at class cxx n (Some v) =
@@ -150,10 +163,123 @@ owner_below versions class cxx text (suc n) =
     ∙ ap₂ first_of (owner_at class cxx n text (slice_get versions n)) (owner_below versions class cxx text n)
     ∙ placed_on n (section_at class cxx (Some text) (slice_get versions n)) (found_below versions class cxx (Some text) n)
 
--- the owner of the last glob that fits is what is found
-pub owner_found : (versions : List Version) (class : Class) (cxx : Bool) (all : VersionGlobs) (text : List ℕ) → AreGlobsOf versions class cxx all
-    → owner_of all.globs.items all.owners (chars text) ≡ found_below versions class cxx (Some text) (length versions)
-owner_found versions class cxx all text is = ap₂ (λ globs owners. owner_of globs owners (chars text)) is.globs is.owners ∙ owner_below versions class cxx text (length versions)
+-- ---- the places of globs
+
+-- what has the glob of a place
+abbrev pub owner_in : GlobPlace → Owner
+owner_in p = (p.version, p.side)
+
+owners_from : (n : ℕ) (side : Side) (k : ℕ) (globs : List (List GlobToken)) → map owner_in (places_from n side k globs) ≡ replicate (length globs) (n, side)
+owners_from n side k [] = refl
+owners_from n side k (glob ∷ globs) = ap (λ (os : List Owner). (n, side) ∷ os) (owners_from n side (suc k) globs)
+
+owners_of : (class : Class) (cxx : Bool) (n : ℕ) (v : Option Version) → map owner_in (places_at class cxx n v) ≡ owners_at class cxx n v
+owners_of class cxx n None = refl
+owners_of class cxx n (Some v) =
+    let locals = globs_in class (rules_of v Local cxx) in
+    let globals = globs_in class (rules_of v Global cxx) in
+    map-append owner_in (places_from n Local 0 locals) (places_from n Global 0 globals) ∙ ap₂ (λ xs ys. xs ++ ys) (owners_from n Local 0 locals) (owners_from n Global 0 globals)
+
+owners_are : (versions : List Version) (class : Class) (cxx : Bool) (n : ℕ) → map owner_in (places_below versions class cxx n) ≡ owners_below versions class cxx n
+owners_are versions class cxx zero = refl
+owners_are versions class cxx (suc n) =
+    map-append owner_in (places_below versions class cxx n) (places_at class cxx n (slice_get versions n)) ∙ ap₂ (λ xs ys. xs ++ ys) (owners_are versions class cxx n) (owners_of class cxx n (slice_get versions n))
+
+owner_there : (places : List GlobPlace) (found : Option ℕ) → option_map owner_in (option_and_then (slice_get places) found) ≡ option_and_then (slice_get (map owner_in places)) found
+owner_there places None = refl
+owner_there places (Some k) = sym (slice_get-map owner_in places k)
+
+last_is : (globs : List (List GlobToken)) (name : List ℕ) (n : ℕ) → n ≡ length globs → last_of (fits_at globs name) n ≡ last_fit globs name
+unfolding last_fit
+last_is globs name n e = ap (last_of (fits_at globs name)) e
+
+-- what has the last glob that fits is what is found
+pub owner_found : (versions : List Version) (class : Class) (cxx : Bool) (all : VersionGlobs) (text : List ℕ) (found : Option ℕ) → AreGlobsOf versions class cxx all
+    → found ≡ last_of (fits_at (globs_below versions class cxx (length versions)) (chars text)) (filed all.index)
+    → option_map owner_in (option_and_then (slice_get all.places) found) ≡ found_below versions class cxx (Some text) (length versions)
+owner_found versions class cxx all text found is last =
+    owner_there all.places found
+    ∙ ap₂ (λ (os : List Owner) (k : Option ℕ). option_and_then (slice_get os) k) (ap (map owner_in) is.places ∙ owners_are versions class cxx (length versions))
+    (last ∙ last_is (globs_below versions class cxx (length versions)) (chars text) (filed all.index) is.index.all)
+    ∙ owner_below versions class cxx text (length versions)
+
+-- the glob of a place in a version
+abbrev pub glob_in : Class → Bool → GlobPlace → Option Version → Option (List GlobToken)
+glob_in class cxx p None = None
+glob_in class cxx p (Some v) = slice_get (globs_in class (rules_of v p.side cxx)) p.number
+
+-- the glob of a place, where there is one
+abbrev pub glob_there : List Version → Class → Bool → Option GlobPlace → Option (List GlobToken)
+glob_there versions class cxx None = None
+glob_there versions class cxx (Some p) = glob_in class cxx p (slice_get versions p.version)
+
+-- where the places of two lists lead to two others, those of both lead to both
+there_joined : (f : Option GlobPlace → Option (List GlobToken)) (ps qs : List GlobPlace) (xs ys : List (List GlobToken)) → length ps ≡ length xs
+    → ((k : ℕ) → f (slice_get ps k) ≡ slice_get xs k) → ((k : ℕ) → f (slice_get qs k) ≡ slice_get ys k) → (k : ℕ) → f (slice_get (ps ++ qs) k) ≡ slice_get (xs ++ ys) k
+there_joined f [] qs [] ys e h g k = g k
+there_joined f [] qs (x ∷ xs) ys e h g k = absurd (omega (arith, e))
+there_joined f (p ∷ ps) qs [] ys e h g k = absurd (omega (arith, e))
+there_joined f (p ∷ ps) qs (x ∷ xs) ys e h g zero = h zero
+there_joined f (p ∷ ps) qs (x ∷ xs) ys e h g (suc k) = there_joined f ps qs xs ys (omega (arith, e)) (λ j. h (suc j)) g k
+
+there_from : (versions : List Version) (class : Class) (cxx : Bool) (n : ℕ) (v : Version) → slice_get versions n ≡ Some v → (side : Side) (j : ℕ) (globs : List (List GlobToken))
+    → ((k : ℕ) → slice_get (globs_in class (rules_of v side cxx)) (j + k) ≡ slice_get globs k) → (k : ℕ) → glob_there versions class cxx (slice_get (places_from n side j globs) k) ≡ slice_get globs k
+there_from versions class cxx n v e side j [] h k = refl
+there_from versions class cxx n v e side j (glob ∷ globs) h zero =
+    let same : j ≡ j + 0 = omega arith in
+    ap (glob_in class cxx (record { version = n; side = side; number = j })) e ∙ ap (slice_get (globs_in class (rules_of v side cxx))) same ∙ h zero
+there_from versions class cxx n v e side j (glob ∷ globs) h (suc k) =
+    there_from versions class cxx n v e side (suc j) globs (λ i. let same : suc j + i ≡ j + suc i = omega arith in ap (slice_get (globs_in class (rules_of v side cxx))) same ∙ h (suc i)) k
+
+places_long : (n : ℕ) (side : Side) (k : ℕ) (globs : List (List GlobToken)) → length (places_from n side k globs) ≡ length globs
+places_long n side k [] = refl
+places_long n side k (glob ∷ globs) = ap suc (places_long n side (suc k) globs)
+
+there_at : (versions : List Version) (class : Class) (cxx : Bool) (n : ℕ) (v : Option Version) → slice_get versions n ≡ v → (k : ℕ) → glob_there versions class cxx (slice_get (places_at class cxx n v) k) ≡ slice_get (globs_at class cxx v) k
+there_at versions class cxx n None e k = refl
+there_at versions class cxx n (Some v) e k =
+    let locals = globs_in class (rules_of v Local cxx) in
+    let globals = globs_in class (rules_of v Global cxx) in
+    there_joined (glob_there versions class cxx) (places_from n Local 0 locals) (places_from n Global 0 globals) locals globals (places_long n Local 0 locals)
+    (there_from versions class cxx n v e Local 0 locals (λ i. let same : 0 + i ≡ i = omega arith in ap (slice_get locals) same))
+    (there_from versions class cxx n v e Global 0 globals (λ i. let same : 0 + i ≡ i = omega arith in ap (slice_get globals) same)) k
+
+places_long_at : (class : Class) (cxx : Bool) (n : ℕ) (v : Option Version) → length (places_at class cxx n v) ≡ length (globs_at class cxx v)
+places_long_at class cxx n None = refl
+places_long_at class cxx n (Some v) =
+    let locals = globs_in class (rules_of v Local cxx) in
+    let globals = globs_in class (rules_of v Global cxx) in
+    omega (arith, length-append (places_from n Local 0 locals) (places_from n Global 0 globals), length-append locals globals, places_long n Local 0 locals, places_long n Global 0 globals)
+
+places_long_below : (versions : List Version) (class : Class) (cxx : Bool) (n : ℕ) → length (places_below versions class cxx n) ≡ length (globs_below versions class cxx n)
+places_long_below versions class cxx zero = refl
+places_long_below versions class cxx (suc n) =
+    omega (arith, places_long_below versions class cxx n, places_long_at class cxx n (slice_get versions n), length-append (globs_below versions class cxx n) (globs_at class cxx (slice_get versions n)), length-append (places_below versions class cxx n) (places_at class cxx n (slice_get versions n)))
+
+-- the places lead to the globs
+there_below : (versions : List Version) (class : Class) (cxx : Bool) (n k : ℕ) → glob_there versions class cxx (slice_get (places_below versions class cxx n) k) ≡ slice_get (globs_below versions class cxx n) k
+there_below versions class cxx zero k = refl
+there_below versions class cxx (suc n) k =
+    there_joined (glob_there versions class cxx) (places_below versions class cxx n) (places_at class cxx n (slice_get versions n)) (globs_below versions class cxx n) (globs_at class cxx (slice_get versions n))
+    (places_long_below versions class cxx n) (there_below versions class cxx n) (there_at versions class cxx n (slice_get versions n) refl) k
+
+-- a place of all versions leads to its glob
+pub glob_found : (versions : List Version) (class : Class) (cxx : Bool) (places : List GlobPlace) (k : ℕ) → places ≡ places_below versions class cxx (length versions)
+    → glob_there versions class cxx (slice_get places k) ≡ slice_get (globs_below versions class cxx (length versions)) k
+glob_found versions class cxx places k is = ap (λ (ps : List GlobPlace). glob_there versions class cxx (slice_get ps k)) is ∙ there_below versions class cxx (length versions) k
+
+-- the glob of a place, step by step
+pub glob_is : (versions : List Version) (class : Class) (cxx : Bool) (place : Option GlobPlace) (p : GlobPlace) (version : Option Version) → place ≡ Some p → slice_get versions p.version ≡ version
+    → glob_there versions class cxx place ≡ glob_in class cxx p version
+glob_is versions class cxx place p version there found = ap (glob_there versions class cxx) there ∙ ap (glob_in class cxx p) found
+
+-- one place more
+pub place_more : (n : ℕ) (side : Side) (k : ℕ) (globs : List (List GlobToken)) (glob : List GlobToken)
+    → places_from n side k (globs ++ glob ∷ []) ≡ places_from n side k globs ++ record { version = n; side = side; number = k + length globs } ∷ []
+place_more n side k [] glob = let same : k ≡ k + 0 = omega arith in ap (λ (j : ℕ). record { version = n; side = side; number = j } ∷ []) same
+place_more n side k (g ∷ globs) glob =
+    let same : suc k + length globs ≡ k + suc (length globs) = omega arith in
+    ap (λ (ps : List GlobPlace). record { version = n; side = side; number = k } ∷ ps) (place_more n side (suc k) globs glob ∙ ap (λ (j : ℕ). places_from n side (suc k) globs ++ record { version = n; side = side; number = j } ∷ []) same)
 
 no_section : (class : Class) (cxx : Bool) (v : Option Version) → section_at class cxx None v ≡ None
 no_section class cxx None = refl
@@ -170,17 +296,20 @@ globs_in_front : (versions : List Version) (v : Version) (class : Class) (cxx : 
 globs_in_front versions v class cxx zero l = refl
 globs_in_front versions v class cxx (suc n) l = ap₂ (λ xs ys. xs ++ ys) (globs_in_front versions v class cxx n (omega (arith, l))) (ap (globs_at class cxx) (in_front versions v n (omega (arith, l))))
 
-owners_in_front : (versions : List Version) (v : Version) (class : Class) (cxx : Bool) (n : ℕ) → n ≤ length versions → owners_below (versions ++ v ∷ []) class cxx n ≡ owners_below versions class cxx n
-owners_in_front versions v class cxx zero l = refl
-owners_in_front versions v class cxx (suc n) l = ap₂ (λ xs ys. xs ++ ys) (owners_in_front versions v class cxx n (omega (arith, l))) (ap (owners_at class cxx n) (in_front versions v n (omega (arith, l))))
+places_in_front : (versions : List Version) (v : Version) (class : Class) (cxx : Bool) (n : ℕ) → n ≤ length versions → places_below (versions ++ v ∷ []) class cxx n ≡ places_below versions class cxx n
+places_in_front versions v class cxx zero l = refl
+places_in_front versions v class cxx (suc n) l = ap₂ (λ xs ys. xs ++ ys) (places_in_front versions v class cxx n (omega (arith, l))) (ap (places_at class cxx n) (in_front versions v n (omega (arith, l))))
 
 pub noted_globs : (versions : List Version) (v : Version) (class : Class) (cxx : Bool) (n : ℕ) (old new : VersionGlobs) → length versions ≡ n → AreGlobsOf versions class cxx old
-    → new.globs.items ≡ old.globs.items ++ globs_at class cxx (Some v) → new.owners ≡ old.owners ++ owners_at class cxx n (Some v) → AreGlobsOf (versions ++ v ∷ []) class cxx new
-noted_globs versions v class cxx n old new e is globs owners =
+    → ((before : List (List GlobToken)) → IsWholeIndexOf before old.index → IsWholeIndexOf (before ++ globs_at class cxx (Some v)) new.index)
+    → new.places ≡ old.places ++ places_at class cxx n (Some v) → AreGlobsOf (versions ++ v ∷ []) class cxx new
+noted_globs versions v class cxx n old new e is index places =
     let more : length (versions ++ v ∷ []) ≡ suc (length versions) = omega (arith, length_push versions v) in
     record {
-      globs = globs ∙ ap₂ (λ xs ys. xs ++ ys) (is.globs ∙ sym (globs_in_front versions v class cxx (length versions) (omega arith))) (ap (globs_at class cxx) (sym (at_end versions v))) ∙ ap (globs_below (versions ++ v ∷ []) class cxx) (sym more);
-      owners = owners ∙ ap₂ (λ xs ys. xs ++ ys) (is.owners ∙ sym (owners_in_front versions v class cxx (length versions) (omega arith))) (ap₂ (owners_at class cxx) (sym e) (sym (at_end versions v))) ∙ ap (owners_below (versions ++ v ∷ []) class cxx) (sym more);
+      index = subst (λ (globs : List (List GlobToken)). IsWholeIndexOf globs new.index)
+          (ap₂ (λ xs ys. xs ++ ys) (sym (globs_in_front versions v class cxx (length versions) (omega arith))) (ap (globs_at class cxx) (sym (at_end versions v))) ∙ ap (globs_below (versions ++ v ∷ []) class cxx) (sym more))
+          (index (globs_below versions class cxx (length versions)) is.index);
+      places = places ∙ ap₂ (λ xs ys. xs ++ ys) (is.places ∙ sym (places_in_front versions v class cxx (length versions) (omega arith))) (ap₂ (places_at class cxx) (sym e) (sym (at_end versions v))) ∙ ap (places_below (versions ++ v ∷ []) class cxx) (sym more);
     }
 
 -- ---- both languages

@@ -1,17 +1,19 @@
--- The globs of all versions in one list, each with the version and the section that it stands in.
-use Rattle.std.specs.Prelude.{◌≡◌, ℕ, zero, suc, Bool, true, false, nat_lt, List, [], ◌++◌, length, replicate, if◌then◌else◌, slice_get, Option, Some, None}
+-- The globs of all versions one after the other, each with the place where it stands.
+use Rattle.std.specs.Prelude.{◌≡◌, ℕ, zero, suc, Bool, true, false, nat_lt, List, [], ◌∷◌, ◌++◌, length, if◌then◌else◌, slice_get, Option, Some, None}
 use Rattle.link_glob.specs.Glob.{GlobToken}
+use Rattle.link_glob.specs.GlobKey.{IsWholeIndexOf}
 use Rattle.link_syntax.specs.declared.body.Side.{Side}
 use Rattle.link_syntax.specs.declared.body.Side.TheVariants.{Global, Local}
 use Rattle.link_script.specs.declared.rules.Version.{Version}
 use Rattle.link_script.specs.declared.rules.Class.{Class}
 use Rattle.link_script.specs.declared.rules.Class.TheVariants.{Nonstar, Star}
+use Rattle.link_script.specs.declared.version_globs.GlobPlace.{GlobPlace}
 use Rattle.link_script.specs.declared.version_globs.VersionGlobs.{VersionGlobs}
 use Rattle.link_script.specs.declared.version_globs.ClassGlobs.{ClassGlobs}
 use Rattle.link_script.specs.Filter.{rules_of}
 use Rattle.link_script.specs.Rules.{globs_in, glob_fits, placed}
 
--- where globs stand: the number of a version, and a section
+-- what has a glob: the number of a version, and a section
 abbrev pub Owner : Type 0
 Owner = ℕ × Side
 
@@ -20,10 +22,15 @@ abbrev pub globs_at : Class → Bool → Option Version → List (List GlobToken
 globs_at class cxx None = []
 globs_at class cxx (Some v) = globs_in class (rules_of v Local cxx) ++ globs_in class (rules_of v Global cxx)
 
--- where each of them stands
-abbrev pub owners_at : Class → Bool → ℕ → Option Version → List Owner
-owners_at class cxx n None = []
-owners_at class cxx n (Some v) = replicate (length (globs_in class (rules_of v Local cxx))) (n, Local) ++ replicate (length (globs_in class (rules_of v Global cxx))) (n, Global)
+-- the places of the globs of one section, from this number on
+abbrev pub places_from : ℕ → Side → ℕ → List (List GlobToken) → List GlobPlace
+places_from n side k [] = []
+places_from n side k (glob ∷ globs) = record { version = n; side = side; number = k } ∷ places_from n side (suc k) globs
+
+-- where each glob of a version stands
+abbrev pub places_at : Class → Bool → ℕ → Option Version → List GlobPlace
+places_at class cxx n None = []
+places_at class cxx n (Some v) = places_from n Local 0 (globs_in class (rules_of v Local cxx)) ++ places_from n Global 0 (globs_in class (rules_of v Global cxx))
 
 -- the globs of the versions below n
 abbrev pub globs_below : List Version → Class → Bool → ℕ → List (List GlobToken)
@@ -31,14 +38,14 @@ globs_below versions class cxx zero = []
 globs_below versions class cxx (suc n) = globs_below versions class cxx n ++ globs_at class cxx (slice_get versions n)
 
 -- where each of them stands
-abbrev pub owners_below : List Version → Class → Bool → ℕ → List Owner
-owners_below versions class cxx zero = []
-owners_below versions class cxx (suc n) = owners_below versions class cxx n ++ owners_at class cxx n (slice_get versions n)
+abbrev pub places_below : List Version → Class → Bool → ℕ → List GlobPlace
+places_below versions class cxx zero = []
+places_below versions class cxx (suc n) = places_below versions class cxx n ++ places_at class cxx n (slice_get versions n)
 
--- the globs and their places are those of these versions
+-- the index is that of the globs of these versions, and the places are theirs
 pub record AreGlobsOf (versions : List Version) (class : Class) (cxx : Bool) (all : VersionGlobs) : Type 0 where
-  pub globs : all.globs.items ≡ globs_below versions class cxx (length versions)
-  pub owners : all.owners ≡ owners_below versions class cxx (length versions)
+  pub index : IsWholeIndexOf (globs_below versions class cxx (length versions)) all.index
+  pub places : all.places ≡ places_below versions class cxx (length versions)
 
 -- the section of a version with a glob that fits the text, the global one first
 abbrev pub section_at : Class → Bool → Option (List ℕ) → Option Version → Option Side

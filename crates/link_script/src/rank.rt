@@ -109,7 +109,7 @@ fn last_glob_in(
     ensures value { result ≡ last_in class (seen name.now) versions.now (length versions.now) }
     ensures within { IfSome result (λ x. x.0 < length versions.now) }
 {
-    let (number, side) = globs.strongest(name)?;
+    let (number, side) = globs.strongest(versions, class, name)?;
     Some((usize::from(number), side))
 }
 

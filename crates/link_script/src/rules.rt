@@ -8,14 +8,14 @@ ghost use Rattle.link_script.specs.Lookup.{seen, asked, name_of, text_of};
 ghost use Rattle.link_script.specs.Rank.{HasFit, glob_class};
 ghost use Rattle.std.specs.Option.{option_map};
 ghost use Rattle.link_syntax.specs.declared.body.Side.{Side};
-ghost use Rattle.link_script.specs.Filter.{Filter, every, HasFilter, SameRules, SameFilters, Adds, AddsAll, AddsEntry, HasEntries, HasBody, IsVersion, of_language};
+ghost use Rattle.link_script.specs.Filter.{Filter, every, HasFilter, SameRules, SameFilters, Adds, AddsAll, AddsEntry, HasEntries, HasBody, IsVersion, of_language, rules_of};
 ghost use Rattle.link_script.specs.Regular.{base};
 ghost use Rattle.link_script.specs.Rules.{exact_fits, glob_fits, globs_in, rules_fit, rules_have, version_has};
 
 use crate::lookup::{Demangler, Lookup, look_up, name_of, text_of};
 use link_glob::{GlobList, Pattern};
 use link_names::{Name, NameSet, Seq};
-use link_syntax::{ParsedSymbolMatcher, RawVersion, RawVersionBody, SymbolMatcher};
+use link_syntax::{ParsedSymbolMatcher, RawVersion, RawVersionBody, Side, SymbolMatcher};
 use std::alloc::{AllocError, Global};
 
 /// The kinds of patterns, the strongest first.
@@ -361,6 +361,17 @@ impl VersionBody {
 }
 
 impl Version {
+    /// The patterns of one section and one language.
+    pub(crate) fn rules(&self, side: Side, cxx: bool) -> &BasicMatchRules
+        ensures { result.now ≡ rules_of self.now side cxx }
+    {
+        let rules = match side {
+            Side::Global => &self.version_body.globals,
+            Side::Local => &self.version_body.locals,
+        };
+        if cxx { &rules.cxx } else { &rules.general }
+    }
+
     /// Whether there is a pattern of this class.
     pub(crate) fn has(&self, class: Class) -> bool
         ensures { result ≡ version_has class self.now }

@@ -127,14 +127,6 @@ impl VersionIndex {
         Ok(())
     }
 
-    /// Puts the globs of all versions into their indexes.
-    fn make_index(&mut self) -> Result<(), AllocError>
-        ensures { self.new ≡ self.old }
-    {
-        self.nonstar.make_index()?;
-        self.star.make_index()
-    }
-
     /// The index of these versions.
     pub fn of(alloc: Global, versions: &[Version]) -> Result<VersionIndex, AllocError>
         requires { length versions.now < 32_768 }
@@ -144,7 +136,6 @@ impl VersionIndex {
         for (number, version) in versions.iter().enumerate() {
             index.note(alloc, version, number as u16)?;
         }
-        index.make_index()?;
         Ok(index)
     }
 

@@ -1,17 +1,17 @@
-use Rattle.std.proofs.Common.{arith, inl, inr, take, ◌-◌, ◌∙◌, ap, length}
+use Rattle.std.proofs.Common.{arith, inl, inr, take, ◌-◌, ◌∙◌, ap}
 use borrow.Author.Rules.{rules}
 use Rattle.std.specs.Str.{chars}
 use Rattle.link_glob.specs.GlobList.{later}
-use Rattle.link_glob.specs.GlobKey.{last_under, last_under_some, key_with}
+use Rattle.link_glob.specs.GlobKey.{filed, last_under, last_under_some, key_with}
 use Rattle.link_glob.proofs.LastOf.{later_assoc}
 use Rattle.link_glob.proofs.Keys.{front_ends, front_more}
 use Rattle.link_glob.proofs.glob_index.GlobIndex.last_by_front.Goals as goal
 
 pub fronts-preserved : goal.fronts-preserved
-fronts-preserved c =
-    let globs = c.args.globs.now in
+fronts-preserved g c =
+    let globs = g.G.Globs.globs c.args.globs.now in
     let name = chars c.args.name.now in
-    let n = length c.args.self.now.earlier.items in
+    let n = filed c.args.self.now in
     let rest = chars c.in-Some.after.now in
     let more = front_more globs c.fronts.key c.in-Some.c c.fronts.left rest name n (omega (arith, c.if-left-eq0.false)) in (
       search rules,
@@ -20,7 +20,7 @@ fronts-preserved c =
     )
 
 pub returns-in_default : goal.returns-in_default
-returns-in_default c = c.later-found.ensures ∙ ap (later c.fronts.found) (c.last_under.ensures ∙ front_ends c.args.globs.now c.fronts.key c.fronts.left (chars c.fronts.rest.now) (chars c.args.name.now) (length c.args.self.now.earlier.items) (inl c.in_default.ensures)) ∙ c.fronts.invariant.1
+returns-in_default g c = c.later-found.ensures ∙ ap (later c.fronts.found) (c.last_under.ensures ∙ front_ends (g.G.Globs.globs c.args.globs.now) c.fronts.key c.fronts.left (chars c.fronts.rest.now) (chars c.args.name.now) (filed c.args.self.now) (inl c.in_default.ensures)) ∙ c.fronts.invariant.1
 
 pub returns-then-left-eq0 : goal.returns-then-left-eq0
-returns-then-left-eq0 c = c.later-found.ensures ∙ ap (later c.fronts.found) (c.last_under.ensures ∙ front_ends c.args.globs.now c.fronts.key c.fronts.left (chars c.fronts.rest.now) (chars c.args.name.now) (length c.args.self.now.earlier.items) (inr c.if-left-eq0.true)) ∙ c.fronts.invariant.1
+returns-then-left-eq0 g c = c.later-found.ensures ∙ ap (later c.fronts.found) (c.last_under.ensures ∙ front_ends (g.G.Globs.globs c.args.globs.now) c.fronts.key c.fronts.left (chars c.fronts.rest.now) (chars c.args.name.now) (filed c.args.self.now) (inr c.if-left-eq0.true)) ∙ c.fronts.invariant.1

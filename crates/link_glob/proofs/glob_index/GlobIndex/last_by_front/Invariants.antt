@@ -3,12 +3,12 @@ use denote.Text.{Utf8}
 use denote.Shadow.{shadow}
 use Rattle.std.specs.Str.{chars}
 use Rattle.link_glob.specs.GlobList.{later}
-use Rattle.link_glob.specs.GlobKey.{front_key, last_under_some}
+use Rattle.link_glob.specs.GlobKey.{filed, front_key, last_under_some}
 use Rattle.link_glob.proofs.glob_index.GlobIndex.last_by_front.Given as goal
 
 abbrev pub invariant-fronts : goal.invariant-fronts
-invariant-fronts l = shadow (Utf8 l.rest)
-    × (later l.found (last_under_some l.globs l.key (take l.left (chars l.rest)) (chars l.name) (length l.self.earlier.items)) ≡ last_under_some l.globs front_key (take l.self.longest_front (chars l.name)) (chars l.name) (length l.self.earlier.items))
+invariant-fronts g l = shadow (Utf8 l.rest)
+    × (later l.found (last_under_some (g.G.Globs.globs l.globs) l.key (take l.left (chars l.rest)) (chars l.name) (filed l.self)) ≡ last_under_some (g.G.Globs.globs l.globs) front_key (take l.self.longest_front (chars l.name)) (chars l.name) (filed l.self))
 
 abbrev pub decreases-fronts : goal.decreases-fronts
-decreases-fronts l = length (chars l.rest)
+decreases-fronts g l = length (chars l.rest)

@@ -1,29 +1,29 @@
-use Rattle.std.proofs.Common.{◌∙◌, sym, ap, refl, List, length, slice_get}
-use Rattle.std.specs.Option.{option_and_then}
+use Rattle.std.proofs.Common.{◌∙◌, sym, ap, refl, List, None, Some, length, slice_get}
+use Rattle.std.specs.Option.{option_map}
 use Rattle.std.proofs.lemmas.Option.{slice_get_past, slice_get_read}
-use Rattle.link_script.specs.VersionGlobs.{Owner}
-use Rattle.link_script.proofs.VersionGlobs.{owner_found, none_found}
+use Rattle.link_script.specs.declared.version_globs.GlobPlace.{GlobPlace}
+use Rattle.link_script.proofs.VersionGlobs.{owner_in, owner_found, none_found}
 use Rattle.link_script.proofs.version_globs.VersionGlobs.strongest.Goals as goal
 
 pub returns-in_err-text : goal.returns-in_err-text
-returns-in_err-text c = λ versions class cxx is. rw c.in_err-text.was (c.from_residual.ensures ∙ none_found versions class cxx (length versions))
+returns-in_err-text c = rw c.in_err-text.was (c.from_residual.ensures ∙ none_found c.args.versions.now c.args.class c.args.cxx (length c.args.versions.now))
+
+pub returns-in_err-number : goal.returns-in_err-number
+returns-in_err-number c =
+    rw c.in_ok-text.was
+    (c.from_residual-in_err-number.ensures ∙ owner_found c.args.versions.now c.args.class c.args.cxx c.args.self.now c.in_ok-text.field-0.now None c.requires c.in_err-number.ensures)
 
 pub returns-in_err-place : goal.returns-in_err-place
-returns-in_err-place c = λ versions class cxx is.
+returns-in_err-place c =
+    let past = slice_get_past c.as_slice-places.result.now c.in_ok-number.number c.in_err-place.ensures.lookup.3 in
     rw c.in_ok-text.was
-    (c.from_residual-in_err-place.ensures ∙ ap (option_and_then (slice_get c.args.self.now.owners)) c.in_err-place.ensures ∙ owner_found versions class cxx c.args.self.now c.in_ok-text.field-0.now is)
-
-pub returns-in_err-owner : goal.returns-in_err-owner
-returns-in_err-owner c = λ versions class cxx is.
-    let past = slice_get_past c.as_slice.result.now c.in_ok-place.place c.in_err-owner.ensures.lookup.3 in
-    rw c.in_ok-text.was
-    (c.from_residual-in_err-owner.ensures ∙ sym past ∙ ap (λ (l : List Owner). slice_get l c.in_ok-place.place) c.as_slice.ensures ∙ ap (option_and_then (slice_get c.args.self.now.owners)) c.in_ok-place.ensures
-    ∙ owner_found versions class cxx c.args.self.now c.in_ok-text.field-0.now is)
+    (c.from_residual-in_err-place.ensures ∙ ap (option_map owner_in) (sym past ∙ ap (λ (l : List GlobPlace). slice_get l c.in_ok-number.number) c.as_slice-places.ensures)
+    ∙ owner_found c.args.versions.now c.args.class c.args.cxx c.args.self.now c.in_ok-text.field-0.now (Some c.in_ok-number.number) c.requires c.in_ok-number.ensures)
 
 pub returns : goal.returns
-returns c = λ versions class cxx is.
-    let items = c.as_slice.result.now in
-    let read = slice_get_read items (length items) c.in_ok-place.place c.in_ok-owner.owner.now refl c.in_ok-owner.ensures.lookup.3.0 c.in_ok-owner.ensures.lookup.1 in
+returns c =
+    let items = c.as_slice-places.result.now in
+    let read = slice_get_read items (length items) c.in_ok-number.number c.in_ok-place.place.now refl c.in_ok-place.ensures.lookup.3.0 c.in_ok-place.ensures.lookup.1 in
     rw c.in_ok-text.was
-    (sym read ∙ ap (λ (l : List Owner). slice_get l c.in_ok-place.place) c.as_slice.ensures ∙ ap (option_and_then (slice_get c.args.self.now.owners)) c.in_ok-place.ensures
-    ∙ owner_found versions class cxx c.args.self.now c.in_ok-text.field-0.now is)
+    (ap (option_map owner_in) (sym read ∙ ap (λ (l : List GlobPlace). slice_get l c.in_ok-number.number) c.as_slice-places.ensures)
+    ∙ owner_found c.args.versions.now c.args.class c.args.cxx c.args.self.now c.in_ok-text.field-0.now (Some c.in_ok-number.number) c.requires c.in_ok-number.ensures)
