@@ -16,7 +16,7 @@ abbrev pub view_token : Token → GlobToken
 view_token (tokens.Literal c) = literal c
 view_token tokens.One = one
 view_token tokens.Any = any
-view_token (tokens.Class k) = class k.value.negated k.value.ranges.items
+view_token (tokens.Class k) = class k.value.negated (k.value.first ∷ k.value.more.items)
 
 -- tokens without where they lie in memory
 abbrev pub views : List Token → List GlobToken

@@ -1,6 +1,7 @@
 //! Patterns from bytes.
 
-ghost use Rattle.std.specs.Prelude.{◌≡◌, ◌==◌, ◌<◌, ◌≤◌, false, length, position, Some, IfOk, IfSome};
+ghost use Rattle.std.specs.Prelude.{◌≡◌, ◌==◌, ◌<◌, ◌≤◌, ◌∷◌, [], false, length, position, Some, IfOk, IfSome};
+ghost use Rattle.std.specs.Option.{MatchOption};
 ghost use Rattle.std.specs.Str.{chars};
 ghost use Rattle.link_glob.specs.declared.compile.Dialect.{Dialect};
 ghost use Rattle.link_glob.specs.declared.compile.Dialect.TheVariants.{Gnu, MachO};
@@ -23,31 +24,41 @@ pub enum Dialect {
     MachO,
 }
 
-/// The ranges of a class: `a-b` is a range, any other character is itself.
+/// The first range of a class, and what is behind it: `a-b` is a range, any other character is itself.
+fn split_range(content: &[char]) -> Option<(CharRange, &[char])>
+    ensures split { MatchOption result (content.now ≡ []) (λ r. ranges_of content.now ≡ r.0 ∷ ranges_of r.1.now) }
+    ensures shorter { IfSome result (λ r. length r.1.now < length content.now) }
+{
+    match content {
+        [] => None,
+        [first, '-', last, after @ ..] => Some((
+            CharRange {
+                first: *first,
+                last: *last,
+            },
+            after,
+        )),
+        [only, after @ ..] => Some((
+            CharRange {
+                first: *only,
+                last: *only,
+            },
+            after,
+        )),
+    }
+}
+
+/// The ranges of a class.
 fn ranges_of(alloc: Global, content: &[char]) -> Result<Vec<CharRange>, AllocError>
     ensures { IfOk result (λ v. v.items ≡ ranges_of content.now) }
 {
     let mut ranges = Vec::with_capacity(alloc, content.len())?;
-    let mut rest = content;
-    loop {
-        match rest {
-            [] => return Ok(ranges),
-            [first, '-', last, after @ ..] => {
-                ranges.push(CharRange {
-                    first: *first,
-                    last: *last,
-                })?;
-                rest = after;
-            }
-            [only, after @ ..] => {
-                ranges.push(CharRange {
-                    first: *only,
-                    last: *only,
-                })?;
-                rest = after;
-            }
-        }
+    let mut left = content;
+    'splits: while let Some((range, after)) = split_range(left) {
+        ranges.push(range)?;
+        left = after;
     }
+    Ok(ranges)
 }
 
 /// Where the next `]` stands.
@@ -58,13 +69,19 @@ fn close_of(text: &[char]) -> Option<usize>
     text.iter().position(|c| *c == ']')
 }
 
-/// The class of this content.
+/// The class of this content, which is never empty.
 fn class_of(alloc: Global, negated: bool, content: &[char]) -> Result<Token, AllocError>
+    requires { 0 < length content.now }
     ensures { IfOk result (λ t. view_token t ≡ class negated (ranges_of content.now)) }
 {
-    let ranges = ranges_of(alloc, content)?;
-    let class = Box::new(alloc, Class { negated, ranges })?;
-    Ok(Token::Class(class))
+    let (first, after) = split_range(content).unwrap();
+    let more = ranges_of(alloc, after)?;
+    let class = Class {
+        negated,
+        first,
+        more,
+    };
+    Ok(Token::Class(Box::new(alloc, class)?))
 }
 
 /// A class from its first character on, and the text after its end.

@@ -1,12 +1,12 @@
 //! Whether a glob fits a name, without memory.
 
-ghost use Rattle.std.specs.Prelude.{◌≡◌, ◌↔◌, ◌∷◌, [], IsTrue, reverse};
+ghost use Rattle.std.specs.Prelude.{◌≡◌, ◌↔◌, ◌∷◌, ◌&&◌, [], IsTrue, nat_le, reverse};
 ghost use Rattle.std.specs.Option.{MatchOption};
 ghost use Rattle.std.specs.Str.{chars};
 ghost use Rattle.link_glob.specs.Glob.{any, GlobMatches, takes, is_in_ranges, view_token, views};
 ghost use Rattle.link_glob.specs.Step.{IsStep, NoStep, BeginsPlain};
 
-use crate::pattern::{CharRange, Token};
+use crate::pattern::{CharRange, Class, Token};
 
 /// The first character, and the text after it.
 pub(crate) fn split_first_char(text: &str) -> Option<(char, &str)>
@@ -26,16 +26,30 @@ pub(crate) fn split_last_char(text: &str) -> Option<(char, &str)>
     Some((last, rest.as_str()))
 }
 
+/// Whether the character is in the range.
+fn is_in_range(range: &CharRange, c: char) -> bool
+    ensures { result ≡ (nat_le range.now.first c && nat_le c range.now.last) }
+{
+    range.first <= c && c <= range.last
+}
+
 /// Whether the character is in some range.
 fn is_in_ranges(ranges: &[CharRange], c: char) -> bool
     ensures { result ≡ is_in_ranges ranges.now c }
 {
     for range in ranges {
-        if range.first <= c && c <= range.last {
+        if is_in_range(range, c) {
             return true;
         }
     }
     false
+}
+
+/// Whether the character is in some range of the class.
+fn is_in_class(class: &Class, c: char) -> bool
+    ensures { result ≡ is_in_ranges (class.now.first ∷ class.now.more.items) c }
+{
+    is_in_range(&class.first, c) || is_in_ranges(&class.more, c)
 }
 
 /// Whether a token that is no star takes this one character.
@@ -46,7 +60,7 @@ fn takes_char(token: &Token, c: char) -> bool
         Token::Literal(d) => c == *d,
         Token::One => true,
         Token::Any => false,
-        Token::Class(class) => is_in_ranges(&class.ranges, c) != class.negated,
+        Token::Class(class) => is_in_class(class, c) != class.negated,
     }
 }
 

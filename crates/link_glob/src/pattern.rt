@@ -15,20 +15,23 @@ pub struct CharRange {
     pub last: char,
 }
 
-/// A class of characters: those in some range, or, where it is negated, those in none.
+/// A class of characters: those in some range, or, where it is negated, those in none. Most classes have one range, and
+/// take no vector for others.
 #[derive(Debug, Drop)]
 pub struct Class {
     pub negated: bool,
-    pub ranges: Vec<CharRange>,
+    pub first: CharRange,
+    pub more: Vec<CharRange>,
 }
 
 impl Clone for Class {
-    ghost is_clone = { λ x y. (y.negated ≡ x.negated) × (y.ranges.items ≡ x.ranges.items) };
+    ghost is_clone = { λ x y. (y.negated ≡ x.negated) × ((y.first ≡ x.first) × (y.more.items ≡ x.more.items)) };
 
     fn clone(&self) -> Result<Class, AllocError> {
         Ok(Class {
             negated: self.negated,
-            ranges: self.ranges.clone()?,
+            first: self.first,
+            more: self.more.clone()?,
         })
     }
 }
