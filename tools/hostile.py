@@ -7,7 +7,7 @@ PART is `shapes`, `products`, `longest`, `stack` or `limits` (all of them if non
 
 - shapes: manifests of M megabytes (10 if not given), each of one thing again and again: values that say nothing in few
   bytes, texts, numbers, and links of many equal names, objects, sections, groups and options.
-- products: what takes the time of a product: names of one slot with the bits of their numbers, patterns that begin and end
+- products: what takes the time of a product: names of one FNV-1a slot with the bits of their numbers, patterns that begin and end
   with a star with names, a long pattern with a long name.
 - longest: texts of the greatest length that is read, and a byte more.
 - stack: links and refusals with one worker and a stack that can't grow past the 128 KiB which each process has from the
@@ -129,13 +129,14 @@ LINKS = {
 }
 
 
-# Each leads the hash number (FNV-1a) behind `n` back to itself, in its lowest 28 bits: so names of these blocks fall in one slot of the database.
+# Each leads the FNV-1a number behind `n` back to itself, in its lowest 28 bits. By that number the database found names once, so that names of
+# these blocks fell in one of its slots; by SipHash they are spread as any others.
 BLOCKS = """02f055e1 0c5ee6ec 189204e6 287f0af9 2d9bb6fa 3e995bfe 4333f5f5 4440f2f6 49f23af7 5ee74bf4 69b8728d 7af7fc81 7f1ae382 8380b3c8 8d62a2cb
     8eac5634 949339cc 9e31a8cf a39a9bc6 a43811c7 aacd4ac1 b49d6dda b975c7db bfc89cc5 c0218bdc d0be83d7 d514d1d0 dff280d3 f1439bed fb1d68e8""".split()
 
 
 def chosen_names(count):
-    """A manifest of definitions whose names were chosen against the database."""
+    """A manifest of definitions whose names were chosen against FNV-1a."""
     yield SYMBOLS[0]
     for blocks in itertools.islice(itertools.product(BLOCKS, repeat=4), count):
         yield b'{"name":{"hex":"6e%s"},"place":1},' % "".join(blocks).encode()
@@ -150,7 +151,7 @@ def of_patterns(patterns, names):
 
 def products():
     """What takes the time of a product: a name, the pieces of a manifest, and the number of steps."""
-    yield "names of one slot", chosen_names(140_000), 140_000 * 64
+    yield "names of one FNV-1a slot", chosen_names(140_000), 140_000 * 64
     yield "patterns and names", of_patterns([b"*x%d*" % n for n in range(3000)], [b"name%d" % n for n in range(3000)]), 3000 ** 2
     yield "a long pattern and name", of_patterns([b"*" + b"a" * 5_000 + b"b"], [b"a" * 20_000]), 5_000 * 20_000
     yield "a long class and name", of_patterns([b"*[" + b"b" * 20_000 + b"]x"], [b"a" * 5_000]), 5_000 * 20_000

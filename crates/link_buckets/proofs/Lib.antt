@@ -1,4 +1,7 @@
+pub mod SipWords
+pub mod SipFacts
 pub mod Keys
+pub mod Filtered
 pub mod Walks
 pub mod Search
 pub mod Hashes

@@ -9,7 +9,8 @@ use Rattle.std.proofs.lemmas.List.{get_or-set_other, get_or-set_same, length-rep
 use Rattle.std.proofs.lemmas.Option.{same_Some}
 use Rattle.link_buckets.specs.declared.places.Places.{Places}
 use Rattle.link_buckets.specs.declared.walk.Fork.{Fork}
-use Rattle.link_buckets.specs.Walks.{AreHung, HaveWalks, IsLink, bit_at, link_at, passes, side_of, slot_of, walk_from, walk_of}
+use Rattle.link_buckets.specs.Slots.{may_hold, slot_of}
+use Rattle.link_buckets.specs.Walks.{AreHung, AreTold, HaveWalks, IsLink, bit_at, link_at, passes, side_of, walk_from, walk_of}
 
 -- ---- walks
 
@@ -383,10 +384,27 @@ hung_slot slots forks numbers place number here inside within none hung = record
         let start : get_or new (slot_of (length new) n) 0 ≡ suc place = ap (λ j. get_or new (slot_of j n) 0) same ∙ ap (λ m. get_or new (slot_of (length slots) m) 0) number_is ∙ get_or-set_same slots slot (place + 1) 0 within ∙ next in
         ap (λ l. passes (walk_from (length forks) forks n 0 l) k) start ∙ ap (λ j. passes (walk_from (length forks) forks n 0 (suc place)) j) e ∙ starts_at (length forks) forks n 0 place some
 
+-- the numbers of the first heads are told, and that of one more
+pub told_more : (old new numbers : List ℕ) (place number : ℕ) → slice_get numbers place ≡ Some number → ((n : ℕ) → may_hold old n ≡ true → may_hold new n ≡ true) → may_hold new number ≡ true → AreTold old numbers place → AreTold new numbers (place + 1)
+told_more old new numbers place number at kept added told k n lt is = elim (last_or_before k place lt) [
+  | inl here ↦ let same : number ≡ n = same_Some number n (sym at ∙ ap (slice_get numbers) (sym here) ∙ is) in subst (λ (m : ℕ). may_hold new m ≡ true) same added
+  | inr before ↦ kept n (told k n before is)
+]
+
+-- the numbers that came are told, where one more came behind them
+told_push : (old new numbers : List ℕ) (number count : ℕ) → count ≡ length (numbers ++ number ∷ []) → ((n : ℕ) → may_hold old n ≡ true → may_hold new n ≡ true) → may_hold new number ≡ true → AreTold old numbers (length numbers) → AreTold new (numbers ++ number ∷ []) count
+told_push old new numbers number count all kept added told place n lt is = by numbers place (λ k m inside at. kept m (told k m inside at)) is
+  where
+    by : (xs : List ℕ) (i : ℕ) → ((k m : ℕ) → k < length xs → slice_get xs k ≡ Some m → may_hold new m ≡ true) → slice_get (xs ++ number ∷ []) i ≡ Some n → may_hold new n ≡ true
+    by [] zero before is = let same : number ≡ n = same_Some number n is in subst (λ (m : ℕ). may_hold new m ≡ true) same added
+    by [] (suc i) before is = absurd cc
+    by (x ∷ xs) zero before is = before 0 n (omega arith) is
+    by (x ∷ xs) (suc i) before is = by xs i (λ k m inside at. before (suc k) m (omega (arith, inside)) at) is
+
 -- all heads hang, where one more was hung behind them
 pub walks_push : (old new : Places) (mid : List Fork) (bare : Fork) (numbers : List ℕ) (place number : ℕ) → HaveWalks old numbers → place ≡ length old.forks.items → mid ≡ old.forks.items ++ bare ∷ [] → ((right : Bool) → side_of right bare ≡ 0) → length new.forks.items ≡ length mid
-    → ((all : List ℕ) → slice_get all place ≡ Some number → AreHung old.slots.items mid all place → AreHung new.slots.items new.forks.items all (place + 1)) → HaveWalks new (numbers ++ number ∷ [])
-walks_push old new mid bare numbers place number walks at mid_is none forks step =
+    → ((all : List ℕ) → slice_get all place ≡ Some number → AreHung old.slots.items mid all place → AreHung new.slots.items new.forks.items all (place + 1)) → ((n : ℕ) → may_hold old.filter n ≡ true → may_hold new.filter n ≡ true) → may_hold new.filter number ≡ true → HaveWalks new (numbers ++ number ∷ [])
+walks_push old new mid bare numbers place number walks at mid_is none forks step kept added =
     let slots : List ℕ = old.slots.items in
     let all : List ℕ = numbers ++ number ∷ [] in
     let end : place ≡ length numbers = at ∙ walks.each in
@@ -397,6 +415,7 @@ walks_push old new mid bare numbers place number walks at mid_is none forks step
     record {
       each = forks ∙ ap length mid_is ∙ length_push old.forks.items bare ∙ ap (λ (k : ℕ). k + 1) walks.each ∙ sym (length_push numbers number);
       hung = subst (λ (k : ℕ). AreHung new.slots.items new.forks.items all k) more (step all here before);
+      told = told_push old.filter new.filter numbers number (length all) refl kept added walks.told;
     }
   where
     get_pushed : (xs : List ℕ) (x : ℕ) → slice_get (xs ++ x ∷ []) (length xs) ≡ Some x

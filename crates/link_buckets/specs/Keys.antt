@@ -3,7 +3,7 @@ use Rattle.std.specs.Prelude.{◌≡◌, ℕ, List, Bool, false, ◌&&◌, Optio
 use Rattle.std.specs.Option.{option_eq, option_map_or}
 use Rattle.std.specs.Str.{bytes_eq}
 use Rattle.std.specs.Borrow.{Bor}
-use Rattle.link_names.specs.NameHash.{fnv_1a, fnv_1a_on}
+use Rattle.link_buckets.specs.SipHash.{sip_hash}
 use Rattle.link_buckets.specs.declared.label.Label.{Label}
 
 -- a name, and its version where it has one
@@ -27,9 +27,10 @@ leads_to names label key = option_map_or (λ own. same_key own key) (names label
 abbrev pub have_one_key : (Label → Option Key) → Label → Label → Bool
 have_one_key names a b = option_map_or (leads_to names a) (names b) false
 
--- the hash number of a key: that of its name, which its version carries on
+-- the hash number of a key: SipHash-1-3 of its name under the key (0, 0), which is fixed and public; with a version that of the version, under the
+-- key of the name's number and 0
 unfoldable pub hash_of : Key → ℕ
-hash_of key = option_map_or (fnv_1a_on (fnv_1a key.name)) key.version (fnv_1a key.name)
+hash_of key = option_map_or (sip_hash (sip_hash 0 0 key.name) 0) key.version (sip_hash 0 0 key.name)
 
 -- the hash number of the key to which the label leads
 abbrev pub number_of : (Label → Option Key) → Label → Option ℕ

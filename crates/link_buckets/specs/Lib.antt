@@ -1,6 +1,8 @@
+pub mod SipHash
 pub mod Keys
 pub mod Heads
 pub mod Places
+pub mod Slots
 pub mod Walks
 pub mod Bucket
 pub mod Buckets

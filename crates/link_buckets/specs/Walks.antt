@@ -4,10 +4,7 @@ use Rattle.std.specs.List.{list_any}
 use Rattle.std.specs.Option.{option_map_or}
 use Rattle.link_buckets.specs.declared.places.Places.{Places}
 use Rattle.link_buckets.specs.declared.walk.Fork.{Fork}
-
--- the slot of a number among so many
-abbrev pub slot_of : ℕ → ℕ → ℕ
-slot_of slots number = bit_and (number / 2 ^ 8) (slots - 1)
+use Rattle.link_buckets.specs.Slots.{may_hold, slot_of}
 
 -- whether a number's walk turns right at a depth: the bits of the number, from the highest down and round again
 abbrev pub bit_at : ℕ → ℕ → Bool
@@ -46,7 +43,12 @@ pub record AreHung (slots : List ℕ) (forks : List Fork) (numbers : List ℕ) (
   pub next : (place : ℕ) (right : Bool) → IsLink count place (link_at forks place right)
   pub passed : (place number : ℕ) → place < count → slice_get numbers place ≡ Some number → IsTrue (passes (walk_of slots forks number) place)
 
--- all heads hang
+-- the filter tells that the first so many numbers came
+abbrev pub AreTold : List ℕ → List ℕ → ℕ → Type 0
+AreTold filter numbers count = (place number : ℕ) → place < count → slice_get numbers place ≡ Some number → IsTrue (may_hold filter number)
+
+-- all heads hang, and the filter tells that their numbers came
 pub record HaveWalks (p : Places) (numbers : List ℕ) : Type 0 where
   pub each : length p.forks.items ≡ length numbers
   pub hung : AreHung p.slots.items p.forks.items numbers (length numbers)
+  pub told : AreTold p.filter numbers (length numbers)

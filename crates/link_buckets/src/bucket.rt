@@ -156,6 +156,9 @@ impl Bucket {
     pub fn may_have(&self, hash: u64) -> bool
         ensures { result ≡ false → (names : Label → Option Key) (asked : Key) → IsKeyed names self.now → hash_of asked ≡ hash → mapped_in names self.now asked ≡ None }
     {
+        if !self.places.may_have(hash) {
+            return false;
+        }
         for (place, _) in self.places.walk(hash) {
             if self.has_hash(place, hash) {
                 return true;

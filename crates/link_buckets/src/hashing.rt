@@ -3,16 +3,16 @@
 ghost use Rattle.std.specs.Prelude.{◌≡◌};
 ghost use Rattle.link_buckets.specs.Keys.{hash_of, key_of};
 
-use link_names::{extend_hash, hash_bytes};
+use crate::sip_hash::sip_hash;
 
-/// The number by which a name is found, or a name and version: FNV-1a with 64 bits, which goes on over the version. So the versions of one
-/// name don't meet in a bucket.
+/// The number by which a name is found, or a name and version: SipHash-1-3 of the name, under a key that is fixed and public, or of the version,
+/// under the number of the name. So the versions of one name don't meet in a bucket, and we know no cheap way to choose many names with one number.
 pub fn key_hash(name: &[u8], version: Option<&[u8]>) -> u64
     ensures { result ≡ hash_of (key_of name.now version.entry) }
 {
-    let hash = hash_bytes(name);
+    let hash = sip_hash(0, 0, name);
     match version {
-        Some(version) => extend_hash(hash, version),
+        Some(version) => sip_hash(hash, 0, version),
         None => hash,
     }
 }

@@ -5,6 +5,7 @@
 mod bucket;
 mod buckets;
 mod definition;
+mod filter;
 mod hashing;
 mod head;
 mod label;
@@ -14,6 +15,7 @@ mod places;
 mod runs;
 mod shares;
 mod side_by_side;
+mod sip_hash;
 mod slots;
 mod walk;
 

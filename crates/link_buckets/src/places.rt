@@ -2,6 +2,7 @@
 
 ghost use Rattle.std.specs.Prelude.{◌≡◌, ◌<◌, ◌≤◌, ◌^◌, length};
 
+use crate::filter::Filter;
 use crate::head::Head;
 use crate::slots::{slot_among, slots_for};
 use crate::walk::{Fork, Walk, clear};
@@ -15,6 +16,8 @@ use std::alloc::{AllocError, Global};
 pub(crate) struct Places {
     slots: Vec<u32>,
     forks: Vec<Fork>,
+    /// Tells of most numbers that didn't come that they didn't.
+    filter: Filter,
     alloc: Global,
     ghost roomy: { length forks.items ≤ length slots.items },
     ghost few: { length forks.items < 2 ^ 32 },
@@ -23,7 +26,8 @@ pub(crate) struct Places {
 impl Places {
     ghost use Rattle.std.specs.Prelude.{ℕ, List, ◌++◌, [], ◌∷◌, ◌+◌, OnOk, OnErr, Some, slice_get, slice_index};
     ghost use Rattle.link_buckets.specs.Heads.{hashes_of};
-    ghost use Rattle.link_buckets.specs.Walks.{AreHung, HaveWalks, slot_of, walk_of};
+    ghost use Rattle.link_buckets.specs.Slots.{may_hold, slot_of};
+    ghost use Rattle.link_buckets.specs.Walks.{AreHung, HaveWalks, walk_of};
 
     /// Nothing noted. Takes no memory.
     pub(crate) fn new(alloc: Global) -> Self
@@ -32,6 +36,7 @@ impl Places {
         Places {
             slots: Vec::new(alloc),
             forks: Vec::new(alloc),
+            filter: Filter::new(alloc),
             alloc,
         }
     }
@@ -53,11 +58,19 @@ impl Places {
         Walk::new(self.forks.as_slice(), number, self.first(number))
     }
 
+    /// Whether a head may have the number. Most numbers that none has are told without a look at any head.
+    pub(crate) fn may_have(&self, number: u64) -> bool
+        ensures { result ≡ may_hold self.now.filter number }
+    {
+        self.filter.may_hold(number)
+    }
+
     /// Hangs the head at a place at the end of its number's walk, where those before it hang.
     fn hang(&mut self, place: usize, number: u64)
         requires { place < length self.old.forks.items }
         ensures slots { length self.new.slots.items ≡ length self.old.slots.items }
         ensures forks { length self.new.forks.items ≡ length self.old.forks.items }
+        ensures filter { self.new.filter ≡ self.old.filter }
         ensures hung { (numbers : List ℕ) → slice_get numbers place ≡ Some number → AreHung self.old.slots.items self.old.forks.items numbers place
             → AreHung self.new.slots.items self.new.forks.items numbers (place + 1) }
     {
@@ -83,9 +96,12 @@ impl Places {
         ensures slots { OnOk result (length self.new.slots.items ≡ slots) }
         ensures err { OnErr result (self.new ≡ self.old) }
     {
+        let filter = Filter::with_room(self.alloc, slots)?;
         self.slots = vec![in self.alloc; 0; slots]?;
+        self.filter = filter;
         clear(self.forks.as_mut_slice());
         for (place, head) in heads.iter().enumerate() {
+            self.filter.add(head.hash);
             self.hang(place, head.hash);
         }
         Ok(())
@@ -123,6 +139,7 @@ impl Places {
             return Err(AllocError);
         }
         self.forks.push(Fork::bare())?;
+        self.filter.add(number);
         self.hang(place, number);
         Ok(())
     }

@@ -1,7 +1,7 @@
 //! In which slot of a table a hash number falls.
 
 ghost use Rattle.std.specs.Prelude.{◌≡◌, ◌<◌, ◌≤◌};
-ghost use Rattle.link_buckets.specs.Walks.{slot_of};
+ghost use Rattle.link_buckets.specs.Slots.{slot_of};
 
 /// The slot of a hash number among so many, a power of two. Its lowest bits are left out, since they pick the bucket.
 pub(crate) fn slot_among(number: u64, slots: usize) -> usize

@@ -81,17 +81,49 @@ impl Texts {
     }
 }
 
-/// Names of which the first two have one hash number, and so have the next two.
+/// Names of which the first two have one hash number, and so have the next two. They were found by a search of some 10^10 steps for each pair.
 const ENTRIES: &[(&[u8], Option<&[u8]>)] = &[
-    (b"8yn0iYCKYHlIj4-BwPqk", None),
-    (b"GReLUrM4wMqfg9yzV3KQ", None),
-    (b"gMPflVXtwGDXbIhP73TX", None),
-    (b"LtHf1prlU1bCeYZEdqWf", None),
+    (b"kfhclnilncdfdjoc", None),
+    (b"njmejopfpibhlkfl", None),
+    (b"gpkfdgdfdhpjbpol", None),
+    (b"fgejahcimlndlblo", None),
     (b"f", Some(b"V1")),
     (b"f", Some(b"V2")),
     (b"f", None),
-    (b"8yn0iYCKYHlIj4-BwPqk", None),
+    (b"kfhclnilncdfdjoc", None),
 ];
+
+/// Names and versions with their numbers, which another program computed.
+const NUMBERS: &[(&[u8], Option<&[u8]>, u64)] = &[
+    (b"", None, 0xd1fb_a762_150c_532c),
+    (b"a", None, 0x4074_48d2_b89b_1813),
+    (b"_ZdlPv_", None, 0xa626_d237_b950_27c1),
+    (b"strerror", None, 0x0ed9_fd19_fa87_90fd),
+    (b"pthread_x", None, 0x827e_7e5c_c1b1_29e0),
+    (b"__cxa_finalize_x", None, 0xc318_d45c_806e_8e26),
+    (
+        b"_ZNSt6vectorIiSaIiEE9push_backE",
+        None,
+        0x0ce5_4d72_0677_5ad9,
+    ),
+    (b"kfhclnilncdfdjoc", None, 0x4585_4ea5_9d20_6308),
+    (b"njmejopfpibhlkfl", None, 0x4585_4ea5_9d20_6308),
+    (b"gpkfdgdfdhpjbpol", None, 0x9b03_6c8c_506a_33e9),
+    (b"fgejahcimlndlblo", None, 0x9b03_6c8c_506a_33e9),
+    (b"printf", Some(b"GLIBC_2.2.5"), 0x029c_da8a_1ded_4452),
+    (b"printf", Some(b""), 0xdb98_6b13_d872_4ff7),
+    (b"", Some(b""), 0x666f_bc8a_597d_95f8),
+    (b"f", Some(b"V1"), 0x44e9_7fdd_bacc_c7cb),
+    (b"f", Some(b"V2"), 0xeb09_4ab6_cc68_94ec),
+];
+
+#[test]
+fn numbers_are_those_of_siphash(rt: HostRuntime) -> Result<(), Fail> {
+    for &(name, version, want) in NUMBERS {
+        assert_eq!(rt; key_hash(name, version), want);
+    }
+    Ok(())
+}
 
 /// The table of the entries.
 fn make_table(alloc: Global) -> Result<Texts, AllocError> {

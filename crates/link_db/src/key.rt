@@ -57,7 +57,7 @@ impl<'a> SymbolKey<'a> {
         self.name
     }
 
-    /// The hash number of the name, or of the name and version: FNV-1a with 64 bits, which goes on over the version.
+    /// The hash number of the name, or of the name and version: that of `link_buckets::key_hash`, SipHash-1-3 with a fixed key.
     pub fn hash(&self) -> u64
         ensures { result ≡ hash_of self.now }
     {

@@ -3,7 +3,8 @@ use Rattle.std.specs.List.{last_or}
 use Rattle.std.specs.Option.{option_map_or}
 use Rattle.std.proofs.lemmas.Option.{slice_get_read}
 use Rattle.link_buckets.specs.declared.walk.Fork.{Fork}
-use Rattle.link_buckets.specs.Walks.{AreHung, side_of, slot_of, walk_of}
+use Rattle.link_buckets.specs.Slots.{slot_of}
+use Rattle.link_buckets.specs.Walks.{AreHung, side_of, walk_of}
 use Rattle.link_buckets.proofs.Walks.{drained, hung_end, hung_fork, hung_slot}
 use Rattle.link_buckets.proofs.places.Places.hang.Goals as goal
 

@@ -1,13 +1,13 @@
-use Rattle.std.proofs.Common.{◌≡◌, ◌∙◌, ◌++◌, ℕ, Bool, List, length, drop, take, refl, sym, ap, subst, arith}
+use Rattle.std.proofs.Common.{◌≡◌, ◌∙◌, ◌++◌, ◌+◌, ℕ, Bool, List, length, drop, take, refl, sym, ap, subst, arith}
 use Rattle.std.proofs.lemmas.List.{length-map}
 use Rattle.std.proofs.lemmas.Option.{slice_get_read}
 use Rattle.link_buckets.specs.declared.head.Head.{Head}
 use Rattle.link_buckets.specs.declared.walk.Fork.{Fork}
 use Rattle.link_buckets.specs.Heads.{hashes_of}
-use Rattle.link_buckets.specs.Walks.{AreHung, link_at}
+use Rattle.link_buckets.specs.Walks.{AreHung, AreTold, link_at}
 use Rattle.link_buckets.proofs.Releasing.{all_written}
 use Rattle.link_buckets.proofs.Search.{hash_at}
-use Rattle.link_buckets.proofs.Walks.{no_slots, none_hung}
+use Rattle.link_buckets.proofs.Walks.{no_slots, none_hung, told_more}
 use Rattle.link_buckets.proofs.places.Places.remake.Goals as goal
 
 pub loop-place-init : goal.loop-place-init
@@ -21,6 +21,7 @@ loop-place-init c =
       empty.0,
       ap length is ∙ c.clear.ensures.forks ∙ ap length c.as_mut_slice.ensures.value ∙ c.requires.each,
       none_hung slots new (hashes_of c.args.heads.now) empty.1 bare,
+      λ place number lt is. absurd (omega (arith, lt)),
     )
 
 pub loop-place-preserved : goal.loop-place-preserved
@@ -33,6 +34,7 @@ loop-place-preserved c =
       c.hang.ensures.slots ∙ inv.0,
       c.hang.ensures.forks ∙ inv.1,
       c.hang.ensures.hung (hashes_of heads) (hash_at heads place head at) inv.2,
+      subst (λ (l : List ℕ). AreTold l (hashes_of heads) (place + 1)) (sym c.hang.ensures.filter) (told_more c.loop-place.self.filter c.add.new.self (hashes_of heads) place head.hash (hash_at heads place head at) c.add.ensures.kept c.add.ensures.added inv.3),
     )
 
 pub returns-clause-walks : goal.returns-clause-walks
@@ -45,4 +47,5 @@ returns-clause-walks c =
     record {
       each = inv.1 ∙ sym each;
       hung = subst (λ (k : ℕ). AreHung p.slots.items p.forks.items numbers k) end inv.2;
+      told = subst (λ (k : ℕ). AreTold p.filter numbers k) end inv.3;
     }
