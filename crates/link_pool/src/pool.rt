@@ -17,6 +17,13 @@ use std::alloc::{AllocError, Global};
 use std::thread;
 use std::thread::Threads;
 
+/// How many threads so many workers start. One worker alone is the caller's own thread: it sweeps over all items, in their order, with no
+/// hint and no list of findings.
+/// The number is left open: for each number of threads the answer is the same.
+fn threads_for(workers: usize) -> usize {
+    if workers == 1 { 0 } else { workers }
+}
+
 /// A job for each worker's hints.
 fn jobs_of<P: Readable>(
     alloc: Global,
@@ -152,7 +159,7 @@ fn begin<P: Readable>(
     ensures known { OnOk result ((f : ℕ) → Contains (P.work plan.now).roots f → Contains seat.new.view.known f) }
     ensures listed { OnOk result ((m : Mark) → Contains (P.work plan.now).root_marks m → Contains seat.new.view.marks m) }
 {
-    let mut dealer = Dealer::new(alloc, workers)?;
+    let mut dealer = Dealer::new(alloc, threads_for(workers))?;
     request_roots(words, seat, plan, &mut dealer);
     mark_roots(words, seat, plan);
     Ok(dealer.into_hints())
@@ -203,8 +210,8 @@ impl<T> AllRead<T> {
     }
 }
 
-/// Reads all that is asked for, by so many threads, and ends the sharing. Each item that a thread begins is read between
-/// two calls of the gate. It refuses only for want of memory, at the first thread that is refused.
+/// Reads all that is asked for, by so many threads, and ends the sharing; one worker is the caller's own thread. Each item that a
+/// thread begins is read between two calls of the gate. It refuses only for want of memory, at the first thread that is refused.
 pub fn read_all<R: Threads + Sync, P: Readable + Sync, G: Gate + Sync>(
     rt: &R,
     alloc: Global,
