@@ -77,14 +77,15 @@ fn push_group<P: Platform>(asked: &mut Vec<Option<u64>>, group: &Group<P>) -> Re
     Ok(())
 }
 
-/// Those of the files of groups.
+/// Those of the files of groups. Room is made for so many symbols at once.
 pub(crate) fn groups_asked<P: Platform>(
     alloc: Global,
+    symbols: usize,
     groups: &[Group<P>],
 ) -> Result<Vec<Option<u64>>, AllocError>
     ensures { IfOk result (λ asked. asked.items ≡ groups_asked groups.now) }
 {
-    let mut asked = Vec::new(alloc);
+    let mut asked = Vec::with_capacity(alloc, symbols)?;
     for group in groups {
         push_group(&mut asked, group)?;
     }

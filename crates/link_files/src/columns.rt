@@ -3,9 +3,9 @@
 ghost use Rattle.std.specs.Prelude.{◌≡◌, ◌<◌, ◌^◌, [], IfOk, OnErr, OnOk};
 ghost use Rattle.link_files.specs.Columns.{columns_behind, first_columns, joined_columns};
 
-use crate::appending::append_both;
+use crate::appending::{append_both, append_list};
 use crate::asked::groups_asked;
-use crate::outlines::{FileOutline, outlines_of};
+use crate::outlines::{FileOutline, outlines_of, symbols_told};
 use crate::sources::{SymbolSource, sources_of};
 use link_groups::Group;
 use link_input::Platform;
@@ -53,7 +53,7 @@ impl Columns {
         ensures { IfOk result (λ columns. columns ≡ columns_behind objects groups.now) }
     {
         let outlines = outlines_of(alloc, groups)?;
-        let asked = groups_asked(alloc, groups)?;
+        let asked = groups_asked(alloc, symbols_told(&outlines), groups)?;
         let sources = sources_of(alloc, asked.len(), objects, outlines.as_slice())?;
         Ok(Columns {
             outlines,
@@ -68,12 +68,12 @@ impl Columns {
         ensures err { OnErr result (self.new ≡ self.old) }
     {
         let Columns {
-            mut outlines,
+            outlines,
             sources,
             asked,
         } = more;
         let files = self.outlines.len();
-        self.outlines.append(&mut outlines)?;
+        append_list(&mut self.outlines, outlines)?;
         if let Err(error) = append_both(&mut self.sources, sources, &mut self.asked, asked) {
             self.outlines.truncate(files);
             return Err(error);

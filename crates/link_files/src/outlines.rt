@@ -69,6 +69,16 @@ fn outline_of<P: Platform>(file: &SequencedInput<P>) -> FileOutline
     }
 }
 
+/// How many symbols files of these outlines have.
+/// The number is left open: it only tells how much room is made.
+pub(crate) fn symbols_told(outlines: &[FileOutline]) -> usize {
+    let mut symbols = 0usize;
+    for outline in outlines {
+        symbols = symbols.saturating_add(outline.symbols);
+    }
+    symbols
+}
+
 /// Adds those of the files of a group.
 fn push_outlines<P: Platform>(
     outlines: &mut Vec<FileOutline>,

@@ -1,5 +1,5 @@
 -- What is answered of a name is what the rules of the link say.
-use Rattle.std.proofs.Common.{◌≡◌, ℕ, List, [], ◌∷◌, Bool, true, false, Option, Some, None, Result, refl, sym, ap, subst, ◌∙◌}
+use Rattle.std.proofs.Common.{◌≡◌, ℕ, List, [], ◌∷◌, Bool, true, false, Option, Some, None, Result, length, refl, sym, ap, subst, arith, ◌∙◌}
 use Rattle.std.specs.Prelude.{◌↔◌, ◌||◌, IsTrue, not, is_some, option_map}
 use Rattle.std.specs.List.{list_any}
 use Rattle.link_names.specs.Names.{Names, is_member}
@@ -15,7 +15,7 @@ use Rattle.link_script.specs.declared.script.VersionScript.TheVariants.{Regular,
 use Rattle.link_script.specs.ExportList.{IsListed, IsListOf}
 use Rattle.link_script.specs.Filter.{AreVersions}
 use Rattle.link_script.specs.ListedNames.{ListedNames}
-use Rattle.link_script.specs.Lookup.{asked}
+use Rattle.link_script.specs.Lookup.{Asked, asked}
 use Rattle.link_script.specs.Rank.{filters_in, IsBest}
 use Rattle.link_script.specs.Script.{versions_in, IsScriptOf, IsVersionBy}
 use Rattle.link_script.specs.VersionOf.{Undeclared, is_local_match}
@@ -48,6 +48,12 @@ listing_some : (b : Bool) (entries : List ParsedSymbolMatcher) (required : List 
     → (b ≡ true) × IsListOf entries required list
 listing_some true entries required list is = (refl, is)
 listing_some false entries required list is = absurd is
+
+-- where there are no versions, nothing matches
+pub none_matched : (versions : List Version) (raws : List RawVersion) (a : Asked) → length versions ≡ 0 → AreVersions raws versions → IsBest (filters_in raws) a None
+none_matched [] [] a e are = λ p match. let no : None ≡ Some match.there.0 = match.there.1 in absurd cc
+none_matched [] (raw ∷ raws) a e are = absurd are
+none_matched (v ∷ versions) raws a e are = absurd (omega (arith, e))
 
 -- ---- answers
 

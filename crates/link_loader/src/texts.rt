@@ -157,7 +157,13 @@ impl<P: Platform> TextRules<P> {
             → result ≡ rules.is_local_name name.now }
     {
         match &self.version_script {
-            VersionScript::Regular(script) => script.is_local(name, demangler),
+            VersionScript::Regular(script) => {
+                // Most links have no version script: then no name is looked up.
+                if script.version_iter().is_empty() {
+                    return false;
+                }
+                script.is_local(name, demangler)
+            }
             VersionScript::Rust(_) => !self.listed.contains(name),
         }
     }

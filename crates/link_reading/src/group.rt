@@ -123,6 +123,19 @@ fn load_group<P: Platform, D: Demangler>(
     }
 }
 
+/// For how many symbols room is made at once: those of a group's objects, which are most of a link's.
+/// The number is left open: room changes nothing that a contract sees.
+fn room_for<P: Platform>(group: &Group<P>) -> usize {
+    let Group::Objects(objects) = group else {
+        return 0;
+    };
+    let mut symbols = 0usize;
+    for object in objects.as_slice() {
+        symbols = symbols.saturating_add(object.symbol_id_range.len());
+    }
+    symbols
+}
+
 /// What is read of the symbols of a group, by the rules of a link, its output, and how names demangle. Its only refusal is want
 /// of memory.
 pub fn read_group<P: Platform, D: Demangler>(
@@ -138,7 +151,7 @@ pub fn read_group<P: Platform, D: Demangler>(
         → numbers_of read.flags.items ≡ flat_map (file_flags w) (files_of group.now)) }
     ensures count { IfOk result (HasAllFlags group.now) }
 {
-    let mut read = ReadSymbols::new(alloc);
+    let mut read = ReadSymbols::with_room(alloc, room_for(group))?;
     load_group(rules, output, demangler, group, &mut read)?;
     Ok(read)
 }

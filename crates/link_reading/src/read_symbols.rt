@@ -16,21 +16,20 @@ pub struct ReadSymbols {
 }
 
 impl ReadSymbols {
-    ghost use Rattle.std.specs.Prelude.{◌≡◌, ◌++◌, [], ◌∷◌, OnOk, option_map};
+    ghost use Rattle.std.specs.Prelude.{◌≡◌, ◌++◌, [], ◌∷◌, IfOk, OnOk, option_map};
     ghost use Rattle.link_input.specs.Symbols.{Symbol};
     ghost use Rattle.link_rules.specs.Names.{is_listed, is_version_listed};
     ghost use Rattle.link_reading.specs.Definitions.{definitions_by};
     ghost use Rattle.link_reading.specs.Files.{numbers_of};
 
-    /// Nothing. Takes no memory.
-    pub fn new(alloc: Global) -> Self
-        ensures flags { result.flags.items ≡ [] }
-        ensures definitions { result.definitions.items ≡ [] }
+    /// Nothing, with room for so many symbols of which each defines a name. Its only refusal is want of memory.
+    pub fn with_room(alloc: Global, symbols: usize) -> Result<Self, AllocError>
+        ensures flags { IfOk result (λ read. read.flags.items ≡ []) }
+        ensures definitions { IfOk result (λ read. read.definitions.items ≡ []) }
     {
-        ReadSymbols {
-            flags: Vec::new(alloc),
-            definitions: Vec::new(alloc),
-        }
+        let flags = Vec::with_capacity(alloc, symbols)?;
+        let definitions = Vec::with_capacity(alloc, symbols)?;
+        Ok(ReadSymbols { flags, definitions })
     }
 
     /// Adds the next symbol. Its only refusal is want of memory.
