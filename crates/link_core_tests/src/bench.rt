@@ -9,6 +9,7 @@ ghost use Rattle.link_resolve.specs.Known.{IsListed};
 
 use crate::graphs::{chain, fan, reached, tree};
 use crate::loading::{count_of, opened};
+use crate::looking::reached_by_names;
 use crate::shape::{Shape, inputs_of};
 use link_claim::OpenGate;
 use link_closure::Edge;
@@ -110,6 +111,18 @@ fn time_list<R: Clock + Eprint>(
     Ok(count_of(&marks))
 }
 
+/// How many objects of a database the plain work list finds that looks names up.
+fn time_names<R: Clock + Eprint>(
+    rt: &R,
+    alloc: Global,
+    db: &SymbolDb<ElfLike>,
+) -> Result<usize, Fault> {
+    let start = Instant::now(rt)?;
+    let marks = reached_by_names(alloc, db)?;
+    lap(rt, start, "looked up")?;
+    Ok(count_of(&marks))
+}
+
 /// The number that a word spells.
 fn number_of(word: &String) -> Result<usize, Fault> {
     match parse_number(word.as_str()) {
@@ -126,8 +139,8 @@ fn task_of(words: &[String]) -> Result<(&str, usize, usize), Fault> {
     }
 }
 
-/// Times the loading of a database's objects and the plain work list. Says how many objects are loaded, how many the list finds, and how many
-/// requests there are.
+/// Times the plain work list that looks names up, the loading of a database's objects, and the plain work list over known edges. Says how many
+/// objects each finds, and how many requests there are.
 fn time_both<R: Threads + Sync + Clock + Print + Eprint>(
     rt: &R,
     alloc: Global,
@@ -141,9 +154,10 @@ fn time_both<R: Threads + Sync + Clock + Print + Eprint>(
     requires listed { IsListed (seen db.old) }
     requires flags { length (words_of flags.old) ≡ length (symbol_names (seen db.old)) }
 {
+    let looked_up = time_names(rt, alloc, db)?;
     let (loaded, requests) = time_loading(rt, alloc, workers, db, flags)?;
     let listed = time_list(rt, alloc, count, edges)?;
-    println!(rt; "{loaded} {listed} {requests}")?;
+    println!(rt; "{loaded} {looked_up} {listed} {requests}")?;
     Ok(())
 }
 

@@ -7,6 +7,7 @@ mod bench;
 mod gates;
 mod graphs;
 mod loading;
+mod looking;
 #[cfg(test)]
 mod outcome;
 #[cfg(test)]
