@@ -12,6 +12,7 @@ use Rattle.link_input.specs.Limits.{AreWithinLimits, Counts, counts_of, section_
 use Rattle.link_groups.specs.declared.counting.FileCounts.{FileCounts}
 use Rattle.link_groups.specs.FileCounts.{AreSmall, counts_in, counts_with, file_counts, no_files, plus, script_count, stub_count}
 use Rattle.link_groups.proofs.Cutting.{total-append}
+use Rattle.link_groups.proofs.Numbering.{first_of_files}
 use Rattle.link_groups.proofs.Whole.{in-batch, sections-of-objects}
 
 -- the counts of files, without their ids
@@ -19,7 +20,7 @@ abbrev pub file_totals : List InputFile → FileCounts
 file_totals fs = record { objects = total object_count fs; scripts = total script_count fs; stubs = total stub_count fs; sections = total section_count fs; symbols = total symbol_count fs }
 
 -- so many sections of a file have ids
-section-ids : (c : ℕ) (f : InputFile) → (file_sections c f).len ≡ section_count f
+pub section-ids : (c : ℕ) (f : InputFile) → (file_sections c f).len ≡ section_count f
 section-ids c (prelude symbols) = refl
 section-ids c (object o) = of-object o.object.is_dynamic
   where
@@ -39,21 +40,15 @@ counts-sequenced s c (f ∷ fs) = rw (counts-sequenced (s + symbol_count f) (c +
 same-files : (o p s t u v n m y z : ℕ) → o ≡ p → s ≡ t → u ≡ v → n ≡ m → y ≡ z → ◌≡◌ {A = FileCounts} (record { objects = o; scripts = s; stubs = u; sections = n; symbols = y }) (record { objects = p; scripts = t; stubs = v; sections = m; symbols = z })
 same-files o p s t u v n m y z a b c d e = cc
 
--- no file more
-pub plus-none : (c a : FileCounts) → plus c no_files ≡ a → c ≡ a
-plus-none c a is = sym (same-files _ _ _ _ _ _ _ _ _ _ (nothing c.objects) (nothing c.scripts) (nothing c.stubs) (nothing c.sections) (nothing c.symbols)) ∙ is
-  where
-    nothing : (n : ℕ) → n + 0 ≡ n
-    nothing n = omega arith
-
-pub none-plus : (c : FileCounts) → plus no_files c ≡ c
+-- no file, and others
+none-plus : (c : FileCounts) → plus no_files c ≡ c
 none-plus c = same-files _ _ _ _ _ _ _ _ _ _ (nothing c.objects) (nothing c.scripts) (nothing c.stubs) (nothing c.sections) (nothing c.symbols)
   where
     nothing : (n : ℕ) → 0 + n ≡ n
     nothing n = omega arith
 
 -- three in either order
-plus-assoc : (a b c : FileCounts) → plus (plus a b) c ≡ plus a (plus b c)
+pub plus-assoc : (a b c : FileCounts) → plus (plus a b) c ≡ plus a (plus b c)
 plus-assoc a b c = same-files _ _ _ _ _ _ _ _ _ _ (three a.objects b.objects c.objects) (three a.scripts b.scripts c.scripts) (three a.stubs b.stubs c.stubs) (three a.sections b.sections c.sections) (three a.symbols b.symbols c.symbols)
   where
     three : (n m k : ℕ) → n + m + k ≡ n + (m + k)
@@ -64,6 +59,22 @@ pub counts-append : (xs ys : List SequencedFile) → counts_in (xs ++ ys) ≡ pl
 counts-append [] ys = sym (none-plus (counts_in ys))
 counts-append (x ∷ xs) ys = ap (plus (file_counts x)) (counts-append xs ys) ∙ sym (plus-assoc (file_counts x) (counts_in xs) (counts_in ys))
 
+-- files one after another, in two parts: the ids of the second begin where those of the first end
+pub sequenced-parts : (s c : ℕ) (xs ys : List SequencedFile) (fs : List InputFile) → xs ++ ys ≡ sequenced s c fs → ((own : List InputFile) × (xs ≡ sequenced s c own)) × ((rest : List InputFile) × (ys ≡ sequenced (s + (counts_in xs).symbols) (c + (counts_in xs).sections) rest))
+sequenced-parts s c [] ys fs are =
+    let s_is : s + 0 ≡ s = omega arith in
+    let c_is : c + 0 ≡ c = omega arith in
+    (([], refl), (fs, rw (s_is, c_is) are))
+sequenced-parts s c (x ∷ xs) ys [] are = cc
+sequenced-parts s c (x ∷ xs) ys (f ∷ fs) are =
+    let first : x ≡ first_of_files s c f = cc in
+    let parts = sequenced-parts (s + symbol_count f) (c + section_count f) xs ys fs (cc) in
+    let symbols : x.symbols.len ≡ symbol_count f = ap (λ (g : SequencedFile). g.symbols.len) first in
+    let sections : x.sections.len ≡ section_count f = ap (λ (g : SequencedFile). g.sections.len) first ∙ section-ids c f in
+    let s_is : s + (x.symbols.len + (counts_in xs).symbols) ≡ s + symbol_count f + (counts_in xs).symbols = omega arith in
+    let c_is : c + (x.sections.len + (counts_in xs).sections) ≡ c + section_count f + (counts_in xs).sections = omega arith in
+    ((f ∷ parts.0.0, cc), (parts.1.0, rw (s_is, c_is) parts.1.1))
+
 -- what is left of a list, from an item on
 pub drop-at : {A : Type 0} (xs : List A) (k : ℕ) (x : A) → slice_get xs k ≡ Some x → drop k xs ≡ x ∷ drop (k + 1) xs
 drop-at [] k x is = cc
@@ -71,23 +82,9 @@ drop-at (y ∷ xs) zero x is = ap (λ z. z ∷ xs) (same_Some y x is)
 drop-at (y ∷ xs) (suc k) x is =
     let k_is : suc k + 1 ≡ suc (k + 1) = omega arith in rw k_is (drop-at xs k x is)
 
--- a file more
-pub plus-more : (c x r a : FileCounts) → plus c (plus x r) ≡ a → plus (plus c x) r ≡ a
-plus-more c x r a is = plus-assoc c x r ∙ is
-
 -- a part of what is small
 pub small-part : (a b c : FileCounts) → plus a b ≡ c → AreSmall c → AreSmall a
 small-part a b c is small = record {
-  objects = omega (arith, ap (λ (n : FileCounts). n.objects) is, small.objects);
-  scripts = omega (arith, ap (λ (n : FileCounts). n.scripts) is, small.scripts);
-  stubs = omega (arith, ap (λ (n : FileCounts). n.stubs) is, small.stubs);
-  sections = omega (arith, ap (λ (n : FileCounts). n.sections) is, small.sections);
-  symbols = omega (arith, ap (λ (n : FileCounts). n.symbols) is, small.symbols);
-}
-
--- the middle part of what is small
-pub small-middle : (a b r c : FileCounts) → plus a (plus b r) ≡ c → AreSmall c → AreSmall b
-small-middle a b r c is small = record {
   objects = omega (arith, ap (λ (n : FileCounts). n.objects) is, small.objects);
   scripts = omega (arith, ap (λ (n : FileCounts). n.scripts) is, small.scripts);
   stubs = omega (arith, ap (λ (n : FileCounts). n.stubs) is, small.stubs);

@@ -14,6 +14,7 @@ use Rattle.link_input.specs.Limits.{AreWithinLimits, Counts, Excess, counts_of, 
 use Rattle.link_groups.specs.declared.counting.FileCounts.{FileCounts}
 use Rattle.link_groups.specs.declared.group.Group.{Group}
 use Rattle.link_groups.specs.declared.sequencing.NextIds.{NextIds}
+use Rattle.link_groups.specs.Asked.{AllCanBeAsked}
 use Rattle.link_groups.specs.FileCounts.{AreSmall, counts_in, counts_with, too_many}
 use Rattle.link_groups.specs.FileIds.{HavePlaces}
 use Rattle.link_groups.specs.Groups.{files_of}
@@ -141,6 +142,18 @@ small-held {P} options [] held are =
 small-held options (b ∷ bs) held are =
     let is : counts_in (flat_map files_of held) ≡ file_totals (input_files options (b ∷ bs)) = ap counts_in are.files ∙ counts-sequenced 0 0 (input_files options (b ∷ bs)) in
     subst (λ (c : FileCounts). AreSmall c) (sym is) (small-within options (b ∷ bs) are.within)
+
+-- groups of earlier batches can be asked
+pub asked-held : {P : Type 0} (options : Options) (batches : List Batch) (held : List (Group P)) → AreGroupsOf options batches held → AllCanBeAsked held
+asked-held {P} options [] held are =
+    let F : List (Group P) → Type 0 = λ l. AllCanBeAsked l in
+    subst F (sym are) tt
+asked-held options (b ∷ bs) held are = are.asked
+
+-- the ids of their files begin at 0 and follow one another
+pub ids-held : {P : Type 0} (options : Options) (batches : List Batch) (held : List (Group P)) → AreGroupsOf options batches held → (files : List InputFile) × (flat_map files_of held ≡ sequenced 0 0 files)
+ids-held options [] held are = ([], ap (flat_map files_of) are)
+ids-held options (b ∷ bs) held are = (input_files options (b ∷ bs), are.files)
 
 -- what is counted of the link with a batch more
 pub counts-follow : {P : Type 0} (options : Options) (batches : List Batch) (batch : Batch) (held : List (Group P)) (before : FileCounts) → AreGroupsOf options batches held → before ≡ counts_in (flat_map files_of (held ++ first_groups options held)) → counts_with options before batch ≡ counts_of options (batches ++ batch ∷ [])

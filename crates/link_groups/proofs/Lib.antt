@@ -5,5 +5,6 @@ pub mod AddsLemmas
 pub mod Whole
 pub mod Asking
 pub mod FileTotals
+pub mod GroupEnds
 pub mod Following
 pub mod Numbering

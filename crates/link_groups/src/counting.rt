@@ -1,13 +1,16 @@
 //! What is counted of the files of groups.
 
-ghost use Rattle.std.specs.Prelude.{◌≡◌, length};
+ghost use Rattle.std.specs.Prelude.{◌≡◌, ℕ, ◌+◌, List, length, map};
 ghost use Rattle.std.specs.List.{flat_map};
-ghost use Rattle.link_groups.specs.FileCounts.{AreSmall, counts_in, file_counts, no_files, plus};
-ghost use Rattle.link_groups.specs.Groups.{files_of};
-ghost use Rattle.link_groups.specs.SequencedInputs.{sequenced_file};
+ghost use Rattle.link_input.specs.InputFiles.{InputFile};
+ghost use Rattle.link_input.specs.Limits.{total};
+ghost use Rattle.link_input.specs.SequencedFiles.{sequenced};
+ghost use Rattle.link_groups.specs.Asked.{AllCanBeAsked, CanBeAsked};
+ghost use Rattle.link_groups.specs.FileCounts.{AreSmall, counts_in, no_files, plus};
+ghost use Rattle.link_groups.specs.Groups.{files_of, object_file};
 
 use crate::group::Group;
-use crate::sequenced_input::SequencedInput;
+use crate::sequenced::SequencedInputObject;
 use link_input::Platform;
 
 /// How many files of each kind there are, and how many of their sections and symbols have ids.
@@ -33,70 +36,56 @@ impl FileCounts {
             symbols: 0,
         }
     }
-
-    /// Those of some files and of others.
-    fn plus(self, other: FileCounts) -> FileCounts
-        requires some { AreSmall self }
-        requires others { AreSmall other }
-        ensures { result ≡ plus self other }
-    {
-        FileCounts {
-            objects: self.objects + other.objects,
-            scripts: self.scripts + other.scripts,
-            stubs: self.stubs + other.stubs,
-            sections: self.sections + other.sections,
-            symbols: self.symbols + other.symbols,
-        }
-    }
 }
 
-/// Those of one file.
-fn file_counts<P: Platform>(file: &SequencedInput<'_, P>) -> FileCounts
-    ensures { result ≡ file_counts (sequenced_file file.now) }
+/// Where the ids of the sections of objects end: behind the last object that has any, or where they would begin.
+fn sections_end<P: Platform>(first: u128, objects: &[SequencedInputObject<P>]) -> u128
+    requires follow { (symbols : ℕ) × (files : List InputFile) × (map object_file objects.now ≡ sequenced symbols first files) }
+    ensures { result ≡ first + total (λ o. o.section_id_range.len) objects.now }
 {
-    let mut counts = FileCounts::none();
-    match file {
-        SequencedInput::Prelude(prelude) => counts.symbols = prelude.num_symbols() as u128,
-        SequencedInput::Object(object) => {
-            counts.objects = 1;
-            counts.sections = object.section_id_range.len() as u128;
-            counts.symbols = object.symbol_id_range.len() as u128;
+    let mut left = objects.len();
+    while left > 0 {
+        left -= 1;
+        let ids = objects[left].section_id_range;
+        if !ids.is_empty() {
+            return ids.start().as_usize() as u128 + ids.len() as u128;
         }
-        SequencedInput::LinkerScript(script) => {
-            counts.scripts = 1;
-            counts.symbols = script.symbol_id_range.len() as u128;
+    }
+    first
+}
+
+/// Those of some files and of a group behind them. As ids run on, it looks at the ends of the group alone.
+fn counts_behind<P: Platform>(before: FileCounts, group: &Group<P>) -> FileCounts
+    requires asked { CanBeAsked group.now }
+    requires follow { (files : List InputFile) × (files_of group.now ≡ sequenced before.symbols before.sections files) }
+    requires small { AreSmall (plus before (counts_in (files_of group.now))) }
+    ensures { result ≡ plus before (counts_in (files_of group.now)) }
+{
+    let mut counts = before;
+    counts.symbols += group.num_symbols() as u128;
+    match group {
+        Group::Prelude(_) | Group::SyntheticSymbols(_) => {}
+        Group::Objects(objects) => {
+            counts.objects += objects.len() as u128;
+            counts.sections = sections_end(before.sections, objects.as_slice());
         }
-        SequencedInput::StubLibrary(stub) => {
-            counts.stubs = 1;
-            counts.symbols = stub.symbol_id_range.len() as u128;
-        }
-        SequencedInput::SyntheticSymbols(synthetic) => {
-            counts.symbols = synthetic.symbol_id_range.len() as u128;
-        }
+        Group::LinkerScripts(scripts) => counts.scripts += scripts.len() as u128,
+        Group::StubLibraries(stubs) => counts.stubs += stubs.len() as u128,
     }
     counts
 }
 
-/// Those of the files of a group.
-fn group_counts<P: Platform>(group: &Group<P>) -> FileCounts
-    requires { AreSmall (counts_in (files_of group.now)) }
-    ensures { result ≡ counts_in (files_of group.now) }
-{
-    let mut counts = FileCounts::none();
-    for place in 0..group.num_files() {
-        counts = counts.plus(file_counts(&group.file(place)));
-    }
-    counts
-}
-
-/// Those of the files of groups. It looks at each file, and at none of its symbols.
+/// Those of the files of groups. It looks at the ends of each group alone: the first file and the last, and where the last objects
+/// have no sections, those back to one that has some.
 pub(crate) fn counts_of_groups<P: Platform>(groups: &[Group<P>]) -> FileCounts
-    requires { AreSmall (counts_in (flat_map files_of groups.now)) }
+    requires asked { AllCanBeAsked groups.now }
+    requires ids { (files : List InputFile) × (flat_map files_of groups.now ≡ sequenced 0 0 files) }
+    requires small { AreSmall (counts_in (flat_map files_of groups.now)) }
     ensures { result ≡ counts_in (flat_map files_of groups.now) }
 {
     let mut counts = FileCounts::none();
     for group in groups {
-        counts = counts.plus(group_counts(group));
+        counts = counts_behind(counts, group);
     }
     counts
 }

@@ -3,8 +3,10 @@
 ghost use Rattle.std.specs.Prelude.{◌≡◌, ◌+◌, ◌<◌, ◌≤◌, ◌^◌, ◌⊎◌, ◌++◌, [], ◌∷◌, List, Some, None, IfOk, IfErr, OnOk, length, map, option_map};
 ghost use Rattle.std.specs.List.{flat_map};
 ghost use Rattle.link_groups.specs.declared.groups_error.GroupsError.TheVariants.{Memory};
-ghost use Rattle.link_input.specs.InputFiles.{Batch, batch_of};
+ghost use Rattle.link_input.specs.InputFiles.{Batch, InputFile, batch_of};
 ghost use Rattle.link_input.specs.Limits.{AreWithinLimits, batch_limit, counts_of, first_excess};
+ghost use Rattle.link_input.specs.SequencedFiles.{sequenced};
+ghost use Rattle.link_groups.specs.Asked.{AllCanBeAsked};
 ghost use Rattle.link_groups.specs.FileCounts.{AreSmall, counts_in, counts_with, too_many};
 ghost use Rattle.link_groups.specs.Groups.{files_of};
 ghost use Rattle.link_groups.specs.GroupsAdded.{group_files};
@@ -39,7 +41,9 @@ fn first_groups<P: Platform>(
 /// What is counted of the files before those of a batch: the prelude's, where no group is held, and otherwise those of the held
 /// groups.
 fn counts_before<P: Platform>(options: &Options, held: &[Group<P>]) -> FileCounts
-    requires { AreSmall (counts_in (flat_map files_of held.now)) }
+    requires asked { AllCanBeAsked held.now }
+    requires ids { (files : List InputFile) × (flat_map files_of held.now ≡ sequenced 0 0 files) }
+    requires small { AreSmall (counts_in (flat_map files_of held.now)) }
     ensures value { result ≡ counts_in (flat_map files_of (held.now ++ first_groups options.now held.now)) }
     ensures small { AreSmall result }
 {

@@ -3,11 +3,17 @@ use Rattle.std.specs.Prelude.{option_map}
 use Rattle.link_input.specs.InputFiles.{batch_of}
 use Rattle.link_input.specs.Limits.{AreWithinLimits, first_excess}
 use Rattle.link_groups.specs.FileCounts.{counts_with, too_many}
-use Rattle.link_groups.proofs.Following.{counts-follow, room-held, small-held}
+use Rattle.link_groups.proofs.Following.{asked-held, counts-follow, ids-held, room-held, small-held}
 use Rattle.link_groups.proofs.grouping.create_groups.Goals as goal
 
-pub counts_before-before-requires : goal.counts_before-before-requires
-counts_before-before-requires g c = small-held c.args.options.now c.requires.held.0 c.args.held.now c.requires.held.1
+pub counts_before-before-requires-clause-asked : goal.counts_before-before-requires-clause-asked
+counts_before-before-requires-clause-asked g c = asked-held c.args.options.now c.requires.held.0 c.args.held.now c.requires.held.1
+
+pub counts_before-before-requires-clause-ids : goal.counts_before-before-requires-clause-ids
+counts_before-before-requires-clause-ids g c = ids-held c.args.options.now c.requires.held.0 c.args.held.now c.requires.held.1
+
+pub counts_before-before-requires-clause-small : goal.counts_before-before-requires-clause-small
+counts_before-before-requires-clause-small g c = small-held c.args.options.now c.requires.held.0 c.args.held.now c.requires.held.1
 
 pub returns-in-Some-clause-refused : goal.returns-in-Some-clause-refused
 returns-in-Some-clause-refused g c = λ batches are.
