@@ -109,16 +109,18 @@ fn word_counts<P: Plan>(plan: &P) -> Option<(usize, usize)>
     Some((zeros, all))
 }
 
-/// A spare word, the claim and begin words at 0, and the opening flags.
+/// A spare word, the claim and begin words at 0, and the opening flags. There is room for a power of two of words: the list of a link that has
+/// grown by a few symbols then takes as much memory as the one before, which an allocator has at hand.
 fn opening_words<P: Plan>(alloc: Global, plan: &P) -> Result<Vec<u64>, AllocError>
     ensures words { IfOk result (λ v. v.items ≡ opening_words_of (P.work plan.now)) }
     ensures small { IfOk result (λ v. word_count (P.work plan.now) < 2 ^ 64) }
 {
-    let Some((zeros, _all)) = word_counts(plan) else {
+    let Some((zeros, all)) = word_counts(plan) else {
         return Err(AllocError);
     };
-    let mut words = vec![in alloc; 0; zeros]?;
-    words.reserve(plan.symbols())?;
+    let room = all.checked_next_power_of_two().unwrap_or(all);
+    let mut words = Vec::with_capacity(alloc, room)?;
+    words.resize(zeros, 0)?;
     for symbol in 0..plan.symbols() {
         let flags = plan.opening(SymbolId::from_usize(symbol));
         words.push(u64::from(flags.bits()))?;
