@@ -3,7 +3,6 @@
 #![tactic(auto)]
 
 mod hints;
-mod items_by_file;
 mod pool;
 mod readable;
 mod reading;

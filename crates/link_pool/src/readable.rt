@@ -65,6 +65,6 @@ pub trait Readable: Plan {
         ensures { (it : Item) → HasItem (Self.work self.now) item it
             → option_map mark_of_pair result ≡ slice_get it.marks index };
 
-    /// The first item of the file, and how many it has. Only hints rest on it.
+    /// The first item of the file, and how many it has. Only the order in which items are read rests on it.
     fn items_of(&self, file: usize) -> (usize, usize);
 }

@@ -5,7 +5,6 @@ ghost use Rattle.link_claim.specs.Later.{IsLater, HasRead};
 ghost use Rattle.link_claim.specs.Views.{MayBegin};
 ghost use Rattle.link_pool.specs.Found.{AreFound, AreNotDue, missing, Visits, Sweeps};
 
-use crate::items_by_file::ItemsByFile;
 use crate::readable::Readable;
 use crate::reading::{ItemRead, read_item};
 use link_claim::{Gate, Words, WorkSeat};
@@ -128,7 +127,7 @@ fn pass<P: Readable, G: Gate>(
     Ok(more)
 }
 
-/// Visits each item of the file. No clause says that it does, since a further pass would come to what it left out.
+/// Visits the items of the file. No clause says that it visits each, since a further pass would come to what it left out.
 fn visit_file<P: Readable, G: Gate>(
     alloc: Global,
     words: &Words<P>,
@@ -137,7 +136,6 @@ fn visit_file<P: Readable, G: Gate>(
     gate: &G,
     claimed: &mut Vec<usize>,
     results: &mut [Option<P::Found>],
-    items: &ItemsByFile,
     file: usize,
 ) -> Result<(), AllocError>
     requires table { seat.old.table ≡ words.now }
@@ -149,13 +147,10 @@ fn visit_file<P: Readable, G: Gate>(
     ensures found { OnOk result (AreFound (P.found_in plan.now) seat.new.view results.new) }
     ensures fewer { OnOk result (missing results.new ≤ missing results.old) }
 {
-    let mut next = items.last_of(file);
-    for _ in 0..plan.items() {
-        let Some(item) = next else {
-            return Ok(());
-        };
+    let (first, count) = plan.items_of(file);
+    let end = first.saturating_add(count).min(plan.items());
+    for item in first..end {
         visit(alloc, words, seat, plan, gate, claimed, results, item)?;
-        next = items.before(item);
     }
     Ok(())
 }
@@ -180,17 +175,11 @@ fn visit_claimed<P: Readable, G: Gate>(
     ensures found { OnOk result (AreFound (P.found_in plan.now) seat.new.view results.new) }
     ensures fewer { OnOk result (missing results.new ≤ missing results.old) }
 {
-    if claimed.is_empty() {
-        return Ok(());
-    }
-    let items = ItemsByFile::of_plan(alloc, plan)?;
     for _ in 0..plan.files() {
         let Some(file) = claimed.pop() else {
             return Ok(());
         };
-        visit_file(
-            alloc, words, seat, plan, gate, claimed, results, &items, file,
-        )?;
+        visit_file(alloc, words, seat, plan, gate, claimed, results, file)?;
     }
     Ok(())
 }

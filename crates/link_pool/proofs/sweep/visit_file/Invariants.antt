@@ -3,8 +3,8 @@ use Rattle.link_claim.specs.Later.{IsLater}
 use Rattle.link_pool.specs.Found.{AreFound, missing}
 use Rattle.link_pool.proofs.sweep.visit_file.Given as goal
 
-abbrev pub invariant-loop : goal.invariant-loop
-invariant-loop g l = record {
+abbrev pub invariant-loop-item : goal.invariant-loop-item
+invariant-loop-item g l = record {
   table : l.seat.table ≡ l.initial.seat.table;
   later : IsLater l.initial.seat.view l.seat.view;
   found : AreFound (g.P.Readable.found_in l.plan) l.seat.view l.results;
