@@ -26,6 +26,8 @@ use Rattle.link_rules.specs.Rules.{PlatformRules}
 use Rattle.link_stage.specs.AtStage.{IsAtStage}
 use Rattle.link_symbols.specs.Lookups.{IsSelectionOf}
 use Rattle.link_db.specs.Database.{Database, symbol_names}
+use Rattle.link_work.specs.Answer.{AreTargetsRead}
+use Rattle.link_work.specs.declared.found.FoundItem.{FoundItem}
 use Rattle.link_resolve.specs.Known.{IsLoadedSelection, IsSelection, Known}
 use Rattle.link_resolve.specs.Resolving.{IsNextStage, Resolving, known_of}
 
@@ -41,6 +43,14 @@ known-is w marks loaded targets strengths own asked targets_are strengths_are =
     ap (λ (ts : List (Option ℕ)). known_with loaded ts strengths) targets_are
     ∙ (ap (λ (ss : List SymbolStrength). known_with loaded (each_from (loaded_target w loaded) 0 w.symbols) ss) strengths_are
     ∙ ap (λ (ms : List Bool). known_of (selection_of w ms)) (one-loaded w loaded marks own asked))
+
+-- targets that were read of the same
+pub read-as : (n m : ℕ) (settled earlier : List (Option ℕ)) (xs ys : List (Option FoundItem)) (targets : List (Option ℕ)) → n ≡ m → settled ≡ earlier → xs ≡ ys
+    → AreTargetsRead n settled xs targets → AreTargetsRead m earlier ys targets
+read-as n m settled earlier xs ys targets count same found read =
+    subst (λ k. AreTargetsRead k earlier ys targets) count
+    (subst (λ (ts : List (Option ℕ)). AreTargetsRead n ts ys targets) same
+    (subst (λ (fs : List (Option FoundItem)). AreTargetsRead n settled fs targets) found read))
 
 -- what was selected of the groups of these objects, where these are loaded
 pub chosen-are : (marks : List Bool) (objects : List ObjectFile) (given : List Bool) (among : List ObjectFile) (g : IndexedGroups) → given ≡ marks → among ≡ objects

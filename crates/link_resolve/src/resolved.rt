@@ -1,10 +1,14 @@
 //! What is known of a link once it is known which objects are loaded.
 
-ghost use Rattle.std.specs.Prelude.{◌≡◌, ◌<◌, length};
+ghost use Rattle.std.specs.Prelude.{◌≡◌, ℕ, ◌<◌, [], OnErr, OnOk, length};
 ghost use Rattle.link_rules.specs.Selection.{Selection, surviving_strength};
+ghost use Rattle.link_symbols.specs.Lookups.{AreBelow};
+ghost use Rattle.link_work.specs.Answer.{AreFoundBelow, AreTargetsRead};
 
 use link_flags::SymbolStrength;
 use link_ids::SymbolId;
+use link_work::{FoundItem, write_targets};
+use std::alloc::{AllocError, Global};
 use std::marker::Model;
 
 /// What is known of a link once it is known which objects are loaded: a mark for each object, by its place, and for each symbol, by its
@@ -26,8 +30,6 @@ impl Model for Resolved {
 }
 
 impl Resolved {
-    ghost use Rattle.std.specs.Prelude.{◌≡◌};
-
     /// All of this.
     pub fn new(
         loaded: Vec<bool>,
@@ -41,6 +43,27 @@ impl Resolved {
             targets,
             strengths,
         }
+    }
+
+    /// A batch more had these objects loaded of a link with so many symbols, and this was found in their items; how strongly symbols bind is not known
+    /// yet. The only refusal is want of memory, and then all is as before.
+    pub(crate) fn add_batch(
+        &mut self,
+        alloc: Global,
+        loaded: Vec<bool>,
+        symbols: usize,
+        found: &[Option<FoundItem>],
+    ) -> Result<(), AllocError>
+        ensures marks { OnOk result (self.new.marks ≡ loaded.items) }
+        ensures targets { OnOk result (AreTargetsRead symbols self.old.targets found.now self.new.targets) }
+        ensures below { OnOk result ((n : ℕ) → AreBelow n self.old.targets → AreFoundBelow n found.now → AreBelow n self.new.targets) }
+        ensures strengths { OnOk result (self.new.strengths ≡ []) }
+        ensures unchanged { OnErr result (self.new ≡ self.old) }
+    {
+        write_targets(&mut self.targets, symbols, found)?;
+        self.loaded = loaded;
+        self.strengths = Vec::new(alloc);
+        Ok(())
     }
 
     /// Symbols bind so strongly.

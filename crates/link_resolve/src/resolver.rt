@@ -1,6 +1,6 @@
 //! The resolver: which objects of a link are loaded, and what follows for each symbol.
 
-ghost use Rattle.std.specs.Prelude.{◌≡◌, ◌≤◌, ◌<◌, [], All, Bool, IfOk, IfSome, IsTrue, List, OnErr, OnOk, is_some, length, option_map};
+ghost use Rattle.std.specs.Prelude.{◌≡◌, ℕ, ◌≤◌, ◌<◌, [], All, Bool, IfOk, IfSome, IsTrue, List, OnErr, OnOk, Option, is_some, length, option_map};
 ghost use Rattle.link_discarding.specs.Checked.{WereGroupsFine};
 ghost use Rattle.link_discarding.specs.Indexed.{AreGroupsOf, no_groups};
 ghost use Rattle.link_files.specs.GroupFiles.{symbols_in};
@@ -14,6 +14,7 @@ ghost use Rattle.link_work.specs.Requests.{requests_of};
 ghost use Rattle.link_claim.specs.Seats.{IsSettled};
 ghost use Rattle.link_rules.specs.Marking.{flags_before, marked_flags};
 ghost use Rattle.link_rules.specs.Work.{workload_of};
+ghost use Rattle.link_work.specs.Answer.{AreFoundBelow, AreTargetsRead};
 ghost use Rattle.link_work.specs.Planned.{opening_of};
 ghost use Rattle.link_rules.specs.Places.{Bytes, each_from};
 ghost use Rattle.link_rules.specs.Refusals.{group_refusal};
@@ -36,7 +37,7 @@ use link_ids::SymbolId;
 use link_input::Platform;
 use link_rules::LinkError;
 use link_symbols::{reference_table, surviving_strengths};
-use link_work::{LoadedObjects, load_objects, write_flags};
+use link_work::{LoadedObjects, load_objects, read_targets, write_flags};
 use std::alloc::{AllocError, Global};
 use std::marker::Model;
 use std::thread::Threads;
@@ -60,8 +61,8 @@ impl Drop for Resolver {
     }
 }
 
-/// The loaded objects, and what the references of these stand for, by what was known before the batch.
-fn loaded_with_targets<R: Threads + Sync, G: Gate + Sync, P: Platform + Sync>(
+/// The loaded objects, and what was found in them, by what was known before the batch.
+fn loaded_objects<R: Threads + Sync, G: Gate + Sync, P: Platform + Sync>(
     rt: &R,
     alloc: Global,
     gate: &G,
@@ -71,12 +72,12 @@ fn loaded_with_targets<R: Threads + Sync, G: Gate + Sync, P: Platform + Sync>(
     flags: &PerSymbolFlags,
 ) -> Result<LoadedObjects, AllocError>
     requires loaded { length earlier.now.marks ≤ length (objects_in (seen db.now).mapping.files.groups) }
-    requires targets { AreBelow (length (symbol_names (seen db.now))) earlier.now.targets }
     ensures loaded { IfOk result (λ found. (demangle : Bytes → Bytes) (w : Stage) → IsNextStage (platform_of P.Platform) demangle (seen db.now) earlier.now w
         → IsLoaded w found.loaded.items) }
     ensures targets { IfOk result (λ found. (demangle : Bytes → Bytes) (w : Stage) → IsNextStage (platform_of P.Platform) demangle (seen db.now) earlier.now w
-        → found.targets.items ≡ each_from (loaded_target w found.loaded.items) 0 w.symbols) }
-    ensures below { IfOk result (λ found. AreBelow (length (symbol_names (seen db.now))) found.targets.items) }
+        → (targets : List (Option ℕ)) → AreTargetsRead (length (symbol_names (seen db.now))) earlier.now.targets found.found.items targets
+        → targets ≡ each_from (loaded_target w found.loaded.items) 0 w.symbols) }
+    ensures below { IfOk result (λ found. AreFoundBelow (length (symbol_names (seen db.now))) found.found.items) }
     ensures work { IfOk result (λ found. (demangle : Bytes → Bytes) (w : Stage) → IsNextStage (platform_of P.Platform) demangle (seen db.now) earlier.now w
         → found.closed.view.work ≡ record (workload_of w) { opening = opening_of (length (symbol_names (seen db.now))) (numbers_of (words_of flags.now)) }) }
     ensures read { IfOk result (λ found. HasReadAll found.closed.view) }
@@ -109,16 +110,16 @@ fn loaded_with_groups<R: Threads + Sync, G: Gate + Sync, P: Platform + Sync>(
     flags: &PerSymbolFlags,
 ) -> Result<(LoadedObjects, LoadedGroups), LinkError>
     requires loaded { length earlier.now.marks ≤ length (objects_in (seen db.now).mapping.files.groups) }
-    requires targets { AreBelow (length (symbol_names (seen db.now))) earlier.now.targets }
     ensures cause { (demangle : Bytes → Bytes) (w : Stage) → IsNextStage (platform_of P.Platform) demangle (seen db.now) earlier.now w
         → (marks : List Bool) → IsLoaded w marks → TellsCause (group_refusal (selection_of w marks)) result }
     ensures loaded { IfOk result (λ found. (demangle : Bytes → Bytes) (w : Stage) → IsNextStage (platform_of P.Platform) demangle (seen db.now) earlier.now w
         → IsLoaded w found.0.loaded.items) }
     ensures targets { IfOk result (λ found. (demangle : Bytes → Bytes) (w : Stage) → IsNextStage (platform_of P.Platform) demangle (seen db.now) earlier.now w
-        → found.0.targets.items ≡ each_from (loaded_target w found.0.loaded.items) 0 w.symbols) }
+        → (targets : List (Option ℕ)) → AreTargetsRead (length (symbol_names (seen db.now))) earlier.now.targets found.0.found.items targets
+        → targets ≡ each_from (loaded_target w found.0.loaded.items) 0 w.symbols) }
     ensures groups { IfOk result (λ found. (demangle : Bytes → Bytes) (w : Stage) → IsNextStage (platform_of P.Platform) demangle (seen db.now) earlier.now w
         → (marks : List Bool) → IsLoaded w marks → AreGroupsOf marks w.objects found.1) }
-    ensures below { IfOk result (λ found. AreBelow (length (symbol_names (seen db.now))) found.0.targets.items) }
+    ensures below { IfOk result (λ found. AreFoundBelow (length (symbol_names (seen db.now))) found.0.found.items) }
     ensures work { IfOk result (λ found. (demangle : Bytes → Bytes) (w : Stage) → IsNextStage (platform_of P.Platform) demangle (seen db.now) earlier.now w
         → found.0.closed.view.work ≡ record (workload_of w) { opening = opening_of (length (symbol_names (seen db.now))) (numbers_of (words_of flags.now)) }) }
     ensures read { IfOk result (λ found. HasReadAll found.0.closed.view) }
@@ -126,7 +127,7 @@ fn loaded_with_groups<R: Threads + Sync, G: Gate + Sync, P: Platform + Sync>(
     ensures symbols { IfOk result (λ found. length found.0.closed.view.work.opening ≡ length (symbol_names (seen db.now))) }
     ensures requests { IfOk result (λ found. found.0.requests ≡ requests_of found.0.closed.view.work found.0.loaded.items) }
 {
-    let found = loaded_with_targets(rt, alloc, gate, workers, db, earlier, flags)?;
+    let found = loaded_objects(rt, alloc, gate, workers, db, earlier, flags)?;
     let groups = LoadedGroups::select(alloc, db.groups(), &found.loaded)?;
     Ok((found, groups))
 }
@@ -162,9 +163,10 @@ fn resolve_objects<R: Threads + Sync, G: Gate + Sync, P: Platform + Sync>(
     let LoadedObjects {
         closed,
         loaded,
-        targets,
+        found,
         requests,
     } = found;
+    let targets = read_targets(alloc, db.num_symbols(), earlier.targets(), &found)?;
     let strengths = surviving_strengths(alloc, db.files(), &loaded, &groups)?;
     let resolved = Resolved::new(loaded, targets, strengths);
     Ok((resolved, groups, closed, requests))
@@ -331,16 +333,17 @@ impl Resolver {
         if db.num_regular_objects() == 0 {
             return Err(LinkError::NoInputs);
         }
-        let found = loaded_with_targets(rt, alloc, gate, workers, db, &self.resolved, flags)?;
+        let found = loaded_objects(rt, alloc, gate, workers, db, &self.resolved, flags)?;
         check_groups(alloc, db.groups(), self.resolved.loaded(), &found.loaded)?;
-        write_flags(&found.closed, db.num_symbols(), flags);
         let LoadedObjects {
             closed,
             loaded,
-            targets,
+            found,
             requests,
         } = found;
-        self.resolved = Resolved::new(loaded, targets, Vec::new(alloc));
+        let symbols = db.num_symbols();
+        self.resolved.add_batch(alloc, loaded, symbols, &found)?;
+        write_flags(&closed, symbols, flags);
         self.groups = LoadedGroups::none(alloc);
         self.closed = Some(closed);
         Ok(requests)

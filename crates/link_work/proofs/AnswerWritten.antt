@@ -1,12 +1,13 @@
 -- What is written of a link's answer, one after another.
-use Rattle.std.proofs.Common.{◌≡◌, ◌∙◌, ◌+◌, ◌<◌, ◌≤◌, ◌⊎◌, ℕ, zero, suc, List, [], ◌∷◌, ◌++◌, Option, Some, None, Contains, arith, refl, sym, ap, subst, inl, inr, map, length, drop, get_or, set, ext_get_or, slice_get}
+use Rattle.std.proofs.Common.{◌≡◌, ◌∙◌, ◌+◌, ◌<◌, ◌≤◌, ◌⊎◌, ℕ, zero, suc, Bool, true, false, List, [], ◌∷◌, ◌++◌, Option, Some, None, Contains, arith, refl, sym, ap, subst, inl, inr, map, length, drop, get_or, set, ext_get_or, slice_get}
 use Rattle.std.specs.Prelude.{if◌then◌else◌, nat_lt}
 use Rattle.std.specs.List.{range_with_len}
 use Rattle.std.specs.Option.{IfSome}
+use Rattle.std.proofs.lemmas.Bool.{ltb-false, ltb-true}
 use Rattle.std.proofs.lemmas.Bool.Decides.{nat_tests}
-use Rattle.std.proofs.lemmas.List.{at_drop_more, get_or-map, length-map, length-set, map-set}
+use Rattle.std.proofs.lemmas.List.{at_drop_more, get_or-map, get_or_past, length-map, length-set, map-set}
 use Rattle.std.proofs.lemmas.List.Elements.{All-head, All-map, All-set, All-tail}
-use Rattle.std.proofs.lemmas.List.FromFn.{get_or-map-range_with_len, length-map-range_with_len}
+use Rattle.std.proofs.lemmas.List.FromFn.{fill_by_all, get_or-map-range_with_len, length-map-range_with_len}
 use Rattle.std.proofs.lemmas.Option.{get_or_from_slice_get, slice_get_within}
 use Rattle.link_flags.specs.FlagWords.{numbers_of}
 use Rattle.link_flags.specs.declared.value_flags.RawFlags.{RawFlags}
@@ -217,6 +218,24 @@ target-below : (n : ℕ) (settled : List (Option ℕ)) (s : ℕ) → AreBelow n 
 target-below n [] s below = tt
 target-below n (o ∷ os) zero below = All-head (λ target. IfSome target (λ t. t < n)) o os below
 target-below n (o ∷ os) (suc s) below = target-below n os s (All-tail (λ target. IfSome target (λ t. t < n)) o os below)
+
+-- the target of a symbol is what stands at its place, if there is a place
+target-at : (targets : List (Option ℕ)) (s : ℕ) → get_or targets s None ≡ target_at targets s
+target-at [] s = refl
+target-at (o ∷ os) zero = refl
+target-at (o ∷ os) (suc s) = target-at os s
+
+-- targets that are cut to a number of symbols, or filled up to it by none
+pub resized : (old new : List (Option ℕ)) (n : ℕ) → length new ≡ n → ((k : ℕ) → k < n → k < length old → get_or new k None ≡ get_or old k None)
+    → ((k : ℕ) → length old ≤ k → k < n → get_or new k None ≡ None) → new ≡ map (target_at old) (range_with_len 0 n)
+resized old new n long kept filled =
+    fill_by_all (target_at old) new n None long (λ k lt. by k lt (nat_lt k (length old)) refl ∙ target-at old k)
+  where
+    by : (k : ℕ) → k < n → (b : Bool) → nat_lt k (length old) ≡ b → get_or new k None ≡ get_or old k None
+    by k lt true is = kept k lt (ltb-true k (length old) is)
+    by k lt false is =
+        let past = ltb-false k (length old) is in
+        filled k past lt ∙ sym (get_or_past old k None past)
 
 module _ (symbols : ℕ) (settled : List (Option ℕ)) (found : List (Option FoundItem)) where
   -- the targets that are read

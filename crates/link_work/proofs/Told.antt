@@ -2,7 +2,6 @@
 use Rattle.std.proofs.Common.{◌≡◌, ◌<◌, ◌≤◌, ◌∙◌, ℕ, zero, suc, Bool, List, [], ◌∷◌, Some, Contains, filter, length, map, refl, sym, ap, subst, arith, slice_get, slice_index, Result, Ok, Err, IfOk}
 use Rattle.std.specs.Prelude.{◌↔◌, IsTrue}
 use Rattle.std.specs.List.{range_with_len}
-use Rattle.std.proofs.lemmas.List.FromFn.{get_or-map-range_with_len}
 use Rattle.link_closure.specs.Closure.{is_marked}
 use Rattle.link_closure.specs.declared.workload.Item.{Item}
 use Rattle.link_flags.specs.FlagWords.{bits_at, numbers_of}
@@ -15,7 +14,7 @@ use Rattle.link_work.specs.declared.found.FoundReference.{FoundReference}
 use Rattle.link_work.specs.declared.items.WorkItem.{WorkItem}
 use Rattle.link_work.specs.Asked.{IsFoundIn, Known, found_mark, found_target}
 use Rattle.link_work.specs.Items.{symbols_of_item}
-use Rattle.link_work.specs.Planned.{item_by, opening_of}
+use Rattle.link_work.specs.Planned.{item_by}
 use Rattle.link_work.proofs.Sound.{made-item}
 
 module _ (known : Known) (objects : List SymbolsLeft) (items : List WorkItem) (i : ℕ) (it : Item) (found : FoundItem)
@@ -44,10 +43,6 @@ pub word-number : (words : List RawFlags) (s : ℕ) → slice_index (numbers_of 
 word-number [] s = refl
 word-number (w ∷ ws) zero = refl
 word-number (w ∷ ws) (suc s) = word-number ws s
-
--- the flags with which a symbol begins
-pub opens-with : (n s : ℕ) (words : List RawFlags) → s < n → slice_index (opening_of n (numbers_of words)) s ≡ bits_at words s
-opens-with n s words below = get_or-map-range_with_len (slice_index (numbers_of words)) 0 n s s 0 below (omega arith) ∙ word-number words s
 
 -- past the end there are none
 pub no-flags : (words : List RawFlags) (s : ℕ) → length words ≤ s → bits_at words s ≡ 0

@@ -38,6 +38,10 @@ references_in found = flat_map references_of found
 abbrev pub IsReferenceIn : List (Option FoundItem) → FoundReference → Type 0
 IsReferenceIn found r = (i : ℕ) × (x : FoundItem) × (slice_get found i ≡ Some (Some x)) × Contains x.references.items r
 
+-- each reference that was found stands for one of the first n symbols
+abbrev pub AreFoundBelow : ℕ → List (Option FoundItem) → Type 0
+AreFoundBelow n found = (r : FoundReference) → IsReferenceIn found r → r.target < n
+
 -- how many requests were found in an item
 abbrev pub request_count : Option FoundItem → ℕ
 request_count found = option_map_or (λ x. length x.requests.items) found 0

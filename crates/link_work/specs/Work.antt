@@ -1,6 +1,7 @@
 -- The work that a plan of a link means.
 use Rattle.std.specs.Prelude.{◌≡◌, ℕ, Some, map, slice_get}
 use Rattle.link_closure.specs.declared.workload.Workload.{Workload}
+use Rattle.link_flags.specs.FlagWords.{numbers_of, words_of}
 use Rattle.link_input.specs.declared.platform.Platform.{Ghosts}
 use Rattle.link_loader.specs.Holds.{platform_of}
 use Rattle.link_pool.specs.Marks.{mark_of_pair}
@@ -10,7 +11,7 @@ use Rattle.link_work.specs.declared.found.FoundItem.{FoundItem}
 use Rattle.link_work.specs.declared.items.WorkItem.{WorkItem}
 use Rattle.link_work.specs.Asked.{IsFoundIn, Known, known_by}
 use Rattle.link_work.specs.Items.{symbols_of_item}
-use Rattle.link_work.specs.Planned.{planned}
+use Rattle.link_work.specs.Planned.{opening_of, planned}
 
 -- what is known by its database
 abbrev pub known_of : {P : Type 0} {G : Ghosts P} → LinkPlan P G → Known
@@ -18,7 +19,8 @@ known_of {P} {G} p = known_by (platform_of G).weak_overrides_common (seen p.db.n
 
 -- its work
 abbrev pub work_of : {P : Type 0} {G : Ghosts P} → LinkPlan P G → Workload
-work_of p = planned (known_of p) p.objects.items p.items.items p.roots.items (map mark_of_pair p.root_marks.items) p.opening.items
+work_of p = planned (known_of p) p.objects.items p.items.items p.roots.items (map mark_of_pair p.root_marks.items)
+    (opening_of p.symbols (numbers_of (words_of p.flags.now)))
 
 -- what is found in an item of it
 abbrev pub found_in : {P : Type 0} {G : Ghosts P} → LinkPlan P G → ℕ → FoundItem → Type 0

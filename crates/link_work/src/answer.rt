@@ -1,6 +1,6 @@
 //! What follows once the items of a link were read: the loaded objects, the flags of symbols, and what references stand for.
 
-ghost use Rattle.std.specs.Prelude.{◌≡◌, ℕ, ◌<◌, ◌≤◌, ◌^◌, Bool, IfOk, List, Option, Some, length, map, slice_set};
+ghost use Rattle.std.specs.Prelude.{◌≡◌, ℕ, ◌≤◌, ◌^◌, Bool, IfOk, List, OnErr, OnOk, Option, Some, length, map, slice_set};
 ghost use Rattle.std.specs.List.{range_with_len};
 ghost use Rattle.link_claim.specs.Seats.{Ending, IsSettled, claimed_in};
 ghost use Rattle.link_closure.specs.Closure.{is_marked};
@@ -12,9 +12,9 @@ ghost use Rattle.link_rules.specs.Places.{each_from};
 ghost use Rattle.link_rules.specs.Selection.{loaded_target, selection_of};
 ghost use Rattle.link_rules.specs.Work.{workload_of};
 ghost use Rattle.link_rules.specs.World.{Stage};
-ghost use Rattle.link_symbols.specs.Lookups.{AreBelow, target_at};
+ghost use Rattle.link_symbols.specs.Lookups.{AreBelow};
 ghost use Rattle.link_symbols.specs.Walk.{SymbolsLeft};
-ghost use Rattle.link_work.specs.Answer.{AreItemsRead, AreObjectsOf, AreTargetsRead, IsKnownAt, IsReferenceIn, closed_flags, references_in, references_of, request_count, requests_found, with_closed_flags, with_references};
+ghost use Rattle.link_work.specs.Answer.{AreFoundBelow, AreItemsRead, AreObjectsOf, AreTargetsRead, IsKnownAt, closed_flags, references_in, references_of, request_count, requests_found, with_closed_flags, with_references};
 ghost use Rattle.link_work.specs.Asked.{Known};
 ghost use Rattle.link_work.specs.Planned.{opening_of};
 
@@ -75,31 +75,6 @@ pub fn write_flags(closed: &Closed, symbols: usize, flags: &mut PerSymbolFlags)
     write_words(closed, symbols, flags.flags_mut());
 }
 
-/// What a symbol stood for after an earlier batch.
-fn settled_target(settled: &[Option<SymbolId>], symbol: usize) -> Option<SymbolId>
-    ensures { result ≡ target_at settled.now symbol }
-{
-    match settled.get(symbol) {
-        Some(target) => *target,
-        None => None,
-    }
-}
-
-/// What so many symbols stood for after an earlier batch.
-fn settled_targets(
-    alloc: Global,
-    symbols: usize,
-    settled: &[Option<SymbolId>],
-) -> Result<Vec<Option<SymbolId>>, AllocError>
-    ensures { IfOk result (λ targets. targets.items ≡ map (target_at settled.now) (range_with_len 0 symbols)) }
-{
-    let mut targets = Vec::with_capacity(alloc, symbols)?;
-    for symbol in 0..symbols {
-        targets.push(settled_target(settled, symbol))?;
-    }
-    Ok(targets)
-}
-
 /// Writes what a reference stands for, if its symbol has a place.
 fn write_target(targets: &mut [Option<SymbolId>], reference: FoundReference)
     ensures { targets.new ≡ slice_set targets.old reference.reference (Some reference.target) }
@@ -138,6 +113,22 @@ fn write_all(targets: &mut [Option<SymbolId>], found: &[Option<FoundItem>])
     }
 }
 
+/// Writes what the references of loaded objects stand for, by the ids of so many symbols, over what earlier batches settled. The only
+/// refusal is want of memory, and then the targets stay as they were.
+pub fn write_targets(
+    targets: &mut Vec<Option<SymbolId>>,
+    symbols: usize,
+    found: &[Option<FoundItem>],
+) -> Result<(), AllocError>
+    ensures read { OnOk result (AreTargetsRead symbols targets.old.items found.now targets.new.items) }
+    ensures below { OnOk result ((n : ℕ) → AreBelow n targets.old.items → AreFoundBelow n found.now → AreBelow n targets.new.items) }
+    ensures unchanged { OnErr result (targets.new.items ≡ targets.old.items) }
+{
+    targets.resize(symbols, None)?;
+    write_all(targets.as_mut_slice(), found);
+    Ok(())
+}
+
 /// What the references of loaded objects stand for, by the ids of so many symbols: what earlier batches settled, and what was found in the
 /// items of these objects. The only refusal is want of memory.
 pub fn read_targets(
@@ -147,11 +138,11 @@ pub fn read_targets(
     found: &[Option<FoundItem>],
 ) -> Result<Vec<Option<SymbolId>>, AllocError>
     ensures read { IfOk result (λ targets. AreTargetsRead symbols settled.now found.now targets.items) }
-    ensures below { IfOk result (λ targets. (n : ℕ) → AreBelow n settled.now
-        → ((r : FoundReference) → IsReferenceIn found.now r → r.target < n) → AreBelow n targets.items) }
+    ensures below { IfOk result (λ targets. (n : ℕ) → AreBelow n settled.now → AreFoundBelow n found.now → AreBelow n targets.items) }
 {
-    let mut targets = settled_targets(alloc, symbols, settled)?;
-    write_all(targets.as_mut_slice(), found);
+    let mut targets = Vec::with_capacity(alloc, symbols)?;
+    targets.extend_from_slice(settled)?;
+    write_targets(&mut targets, symbols, found)?;
     Ok(targets)
 }
 

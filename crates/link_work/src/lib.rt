@@ -13,7 +13,7 @@ mod roots;
 
 pub use answer::{
     claimed_objects, closed_words_are_those_of_a_link, read_targets,
-    read_targets_are_those_of_a_link, write_flags,
+    read_targets_are_those_of_a_link, write_flags, write_targets,
 };
 pub use found::{FoundItem, FoundReference};
 pub use items::{ITEM_SIZE, WorkItem, work_items};

@@ -1,6 +1,6 @@
 //! The objects that a link loads, read by threads.
 
-ghost use Rattle.std.specs.Prelude.{◌≡◌, ◌<◌, ◌≤◌, IfOk, length};
+ghost use Rattle.std.specs.Prelude.{◌≡◌, ℕ, ◌<◌, ◌≤◌, IfOk, List, Option, length};
 ghost use Rattle.link_claim.specs.Later.{HasReadAll};
 ghost use Rattle.link_work.specs.Requests.{requests_of};
 ghost use Rattle.link_claim.specs.Seats.{IsSettled, claimed_in};
@@ -14,12 +14,13 @@ ghost use Rattle.link_rules.specs.Selection.{loaded_target};
 ghost use Rattle.link_rules.specs.Work.{workload_of};
 ghost use Rattle.link_rules.specs.World.{Stage};
 ghost use Rattle.link_stage.specs.AtStage.{IsAtStage};
-ghost use Rattle.link_symbols.specs.Lookups.{AreBelow};
 ghost use Rattle.link_db.specs.Database.{symbol_names};
 ghost use Rattle.link_db.specs.Seen.{seen};
+ghost use Rattle.link_work.specs.Answer.{AreFoundBelow, AreTargetsRead};
 ghost use Rattle.link_work.specs.Planned.{opening_of};
 
-use crate::answer::{claimed_objects, count_requests, read_targets};
+use crate::answer::{claimed_objects, count_requests};
+use crate::found::FoundItem;
 use crate::plan::LinkPlan;
 use link_claim::{Closed, Gate, Plan, Words};
 use link_db::SymbolDb;
@@ -37,8 +38,9 @@ pub struct LoadedObjects {
     pub closed: Closed,
     /// A mark for each loaded object, by its place among all objects.
     pub loaded: Vec<bool>,
-    /// What the references of loaded objects stand for, by the ids of the symbols.
-    pub targets: Vec<Option<SymbolId>>,
+    /// What was found in each item of these objects, and nothing for the other items: `write_targets` and `read_targets` make of it what
+    /// references stand for.
+    pub found: Vec<Option<FoundItem>>,
     /// How many objects the references of loaded objects request, each time that one is requested.
     pub requests: u64,
 }
@@ -58,7 +60,6 @@ pub fn load_objects<R: Threads + Sync, G: Gate + Sync, P: Platform + Sync>(
     requires some { 0 < workers }
     requires most { workers ≤ 256 }
     requires loaded { length loaded.now ≤ length (objects_in (seen db.now).mapping.files.groups) }
-    requires settled { AreBelow (length (symbol_names (seen db.now))) settled.now }
     ensures work { IfOk result (λ r. (demangle : Bytes → Bytes) (w : Stage) → IsAtStage (platform_of P.Platform) demangle (seen db.now) w
         → w.earlier.loaded ≡ loaded.now → w.earlier.targets ≡ settled.now
         → r.closed.view.work ≡ record (workload_of w) { opening = opening_of (length (symbol_names (seen db.now))) (numbers_of (words_of flags.now)) }) }
@@ -69,8 +70,9 @@ pub fn load_objects<R: Threads + Sync, G: Gate + Sync, P: Platform + Sync>(
     ensures loaded { IfOk result (λ r. (demangle : Bytes → Bytes) (w : Stage) → IsAtStage (platform_of P.Platform) demangle (seen db.now) w
         → w.earlier.loaded ≡ loaded.now → w.earlier.targets ≡ settled.now → IsOrderly w → IsLoaded w r.loaded.items) }
     ensures targets { IfOk result (λ r. (demangle : Bytes → Bytes) (w : Stage) → IsAtStage (platform_of P.Platform) demangle (seen db.now) w
-        → w.earlier.loaded ≡ loaded.now → w.earlier.targets ≡ settled.now → IsOrderly w → r.targets.items ≡ each_from (loaded_target w r.loaded.items) 0 w.symbols) }
-    ensures below { IfOk result (λ r. AreBelow (length (symbol_names (seen db.now))) r.targets.items) }
+        → w.earlier.loaded ≡ loaded.now → w.earlier.targets ≡ settled.now → IsOrderly w → (targets : List (Option ℕ))
+        → AreTargetsRead (length (symbol_names (seen db.now))) settled.now r.found.items targets → targets ≡ each_from (loaded_target w r.loaded.items) 0 w.symbols) }
+    ensures below { IfOk result (λ r. AreFoundBelow (length (symbol_names (seen db.now))) r.found.items) }
     ensures requests { IfOk result (λ r. r.requests ≡ requests_of r.closed.view.work r.loaded.items) }
 {
     let plan = LinkPlan::new(alloc, db, loaded, settled, flags)?;
@@ -79,12 +81,11 @@ pub fn load_objects<R: Threads + Sync, G: Gate + Sync, P: Platform + Sync>(
     let all = read_all(rt, alloc, gate, workers, &plan, words, seat)?;
     let AllRead { closed, found } = all;
     let loaded = claimed_objects(alloc, &closed, plan.files())?;
-    let targets = read_targets(alloc, plan.symbols(), settled, &found)?;
     let requests = count_requests(&found)?;
     Ok(LoadedObjects {
         closed,
         loaded,
-        targets,
+        found,
         requests,
     })
 }

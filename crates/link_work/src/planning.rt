@@ -16,10 +16,9 @@ ghost use Rattle.link_work.specs.Work.{known_of, work_of};
 
 use crate::found::{FoundItem, read_symbols};
 use crate::items::{first_items, item_count, item_symbols, work_items};
-use crate::opening::opening_bits;
+use crate::opening::{opening_bits_are_small, opening_flags};
 use crate::plan::LinkPlan;
 use crate::roots::{marked_places, marks_of_names};
-use bitflags::Flags;
 use link_claim::Plan;
 use link_db::{SymbolDb, targets_are_symbols};
 use link_flags::{PerSymbolFlags, ValueFlags};
@@ -38,20 +37,21 @@ impl<'a, P: Platform> LinkPlan<'a, P> {
         db: &'a SymbolDb<P>,
         loaded: &[bool],
         settled: &'a [Option<SymbolId>],
-        flags: &PerSymbolFlags,
+        flags: &'a PerSymbolFlags,
     ) -> Result<Self, AllocError>
         requires { length loaded.now ≤ length (objects_in (seen db.now).mapping.files.groups) }
         ensures known { IfOk result (λ plan. (demangle : Bytes → Bytes) (w : Stage) → IsAtStage (platform_of P.Platform) demangle (seen db.now) w
             → w.earlier.targets ≡ settled.now → IsKnownAt w (known_of plan)) }
         ensures objects { IfOk result (λ plan. (demangle : Bytes → Bytes) (w : Stage) → IsAtStage (platform_of P.Platform) demangle (seen db.now) w
             → AreObjectsOf w plan.objects.items) }
-        ensures symbols { IfOk result (λ plan. length plan.opening.items ≡ length (symbol_names (seen db.now))) }
+        ensures symbols { IfOk result (λ plan. plan.symbols ≡ length (symbol_names (seen db.now))) }
         ensures work { IfOk result (λ plan. (demangle : Bytes → Bytes) (w : Stage) → IsAtStage (platform_of P.Platform) demangle (seen db.now) w
             → w.earlier.loaded ≡ loaded.now → w.earlier.targets ≡ settled.now
             → work_of plan ≡ record (workload_of w) { opening = opening_of (length (symbol_names (seen db.now))) (numbers_of (words_of flags.now)) }) }
     {
         targets_are_symbols(db);
-        let opening = opening_bits(alloc, flags, db.num_symbols())?;
+        let symbols = db.num_symbols();
+        opening_bits_are_small(flags, symbols);
         let objects = object_symbols(alloc, db.files())?;
         let items = work_items(alloc, &objects)?;
         let firsts = first_items(alloc, &objects)?;
@@ -68,7 +68,8 @@ impl<'a, P: Platform> LinkPlan<'a, P> {
             is_root,
             roots,
             root_marks,
-            opening,
+            symbols,
+            flags,
         })
     }
 }
@@ -87,7 +88,7 @@ impl<'a, P: Platform> Plan for LinkPlan<'a, P> {
     }
 
     fn symbols(&self) -> usize {
-        self.opening.len()
+        self.symbols
     }
 
     fn is_root(&self, file: usize) -> bool {
@@ -99,10 +100,7 @@ impl<'a, P: Platform> Plan for LinkPlan<'a, P> {
     }
 
     fn opening(&self, symbol: SymbolId) -> ValueFlags {
-        match self.opening.get(symbol.as_usize()) {
-            Some(bits) => ValueFlags::from_bits_retain(*bits),
-            None => ValueFlags::empty(),
-        }
+        opening_flags(self.flags, symbol)
     }
 
     ghost sound = { λ p. p.is_sound };

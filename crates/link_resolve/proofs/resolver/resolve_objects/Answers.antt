@@ -1,12 +1,17 @@
-use Rattle.std.proofs.Common.{◌∙◌, ap, sym}
+use Rattle.std.proofs.Common.{◌∙◌, ℕ, List, Option, ap, length, subst, sym}
 use Rattle.link_work.specs.Requests.{requests_of}
 use Rattle.link_files.specs.GroupFiles.{symbols_in}
 use Rattle.link_files.specs.HeldFiles.{HeldFiles}
 use Rattle.link_db.proofs.Causes.{tells-through}
 use Rattle.link_rules.specs.Refusals.{group_refusal}
 use Rattle.link_rules.specs.Selection.{selection_of}
+use Rattle.link_symbols.specs.Lookups.{AreBelow}
+use Rattle.link_work.specs.Answer.{AreFoundBelow}
+use Rattle.link_work.specs.declared.found.FoundItem.{FoundItem}
+use Rattle.link_db.specs.Database.{symbol_names}
+use Rattle.link_db.specs.Seen.{seen}
 use Rattle.link_resolve.specs.Known.{Known}
-use Rattle.link_resolve.proofs.Loaded.{known-is, strengths-are}
+use Rattle.link_resolve.proofs.Loaded.{known-is, read-as, strengths-are}
 use Rattle.link_resolve.proofs.resolver.resolve_objects.Goals as goal
 
 -- a section of a loaded regular object that is a member twice
@@ -20,8 +25,19 @@ returns-clause-known g c = λ demangle w is marks loaded.
     let own = c.in_ok-found.ensures.loaded demangle w is in
     let symbols = ap (λ (h : HeldFiles g.row.P.Denot). symbols_in h.groups) c.files.ensures ∙ sym is.stage.symbols in
     let are = c.in_ok-found.ensures.groups demangle w is found.loaded.items own in
-    let strengths = strengths-are w found.loaded.items c.deref.result.now (symbols_in c.files.result.now.groups) c.in_ok-found.groups c.in_ok-strengths.strengths.items are c.deref.ensures.value symbols c.in_ok-strengths.ensures in
-    c.new-resolved.ensures ∙ known-is w marks found.loaded.items found.targets.items c.in_ok-strengths.strengths.items own loaded (c.in_ok-found.ensures.targets demangle w is) strengths
+    let strengths = strengths-are w found.loaded.items c.deref-2.result.now (symbols_in c.files.result.now.groups) c.in_ok-found.groups c.in_ok-strengths.strengths.items are c.deref-2.ensures.value symbols c.in_ok-strengths.ensures in
+    let targets = c.in_ok-targets.targets.items in
+    let read = read-as c.num_symbols.result (length (symbol_names (seen c.args.db.now))) c.targets.result.now c.args.earlier.now.targets c.deref.result.now found.found.items targets
+    c.num_symbols.ensures.value c.targets.ensures c.deref.ensures.value c.in_ok-targets.ensures.read in
+    c.new-resolved.ensures ∙ known-is w marks found.loaded.items targets c.in_ok-strengths.strengths.items own loaded (c.in_ok-found.ensures.targets demangle w is targets read) strengths
+
+-- all of them are symbols
+pub returns-clause-below : goal.returns-clause-below
+returns-clause-below g c =
+    let n = length (symbol_names (seen c.args.db.now)) in
+    let settled = subst (λ (ts : List (Option ℕ)). AreBelow n ts) (sym c.targets.ensures) c.requires.targets in
+    let found = subst (λ (fs : List (Option FoundItem)). AreFoundBelow n fs) (sym c.deref.ensures.value) c.in_ok-found.ensures.below in
+    subst (λ (k : Known). AreBelow n k.targets) (sym c.new-resolved.ensures) (c.in_ok-targets.ensures.below n settled found)
 
 pub returns-clause-requests : goal.returns-clause-requests
 returns-clause-requests g c =

@@ -1,25 +1,17 @@
-use Rattle.std.proofs.Common.{◌≡◌, ◌∙◌, ◌++◌, ap, arith, drop, length, subst, sym, take}
-use Rattle.std.proofs.lemmas.Grind.{common_steps}
+use Rattle.std.proofs.Common.{◌≡◌, ◌∙◌, ◌++◌, ℕ, List, Option, ap, subst, sym}
 use Rattle.link_symbols.specs.Lookups.{AreBelow}
-use Rattle.link_work.specs.Answer.{AreTargetsRead, references_in, with_references}
-use Rattle.link_work.proofs.AnswerWritten.{read, targets-below, targets-read}
+use Rattle.link_work.specs.Answer.{AreTargetsRead}
 use Rattle.link_work.proofs.answer.read_targets.Goals as goal
+use Rattle.link_work.proofs.answer.read_targets.Goals.{In_ok-write_targets}
 
--- what is returned is what was written
-written : (c : goal.After-targets-3-1) → take c.in_ok-targets.targets.len (c.write_all.new.targets ++ drop (length c.write_all.new.targets) c.in_ok-targets.targets.items)
-    ≡ read c.args.symbols c.args.settled.now c.args.found.now
-written c =
-    let first = c.as_mut_slice.ensures.value ∙ c.in_ok-targets.ensures in
-    let same = c.write_all.ensures ∙ ap (λ ts. with_references ts (references_in c.args.found.now)) first in
-    let long = c.write_all.auto.targets in
-    let ok = c.in_ok-targets.targets.ok in
-    let len = c.as_mut_slice.ensures.len in
-    grind (arith, common_steps)
+-- what is written over is what earlier batches settled
+settled-is : (c : In_ok-write_targets) → c.extend_from_slice.new.self.items ≡ c.args.settled.now
+settled-is c = c.in_ok-extend_from_slice.ensures.items ∙ ap (λ l. l ++ c.args.settled.now) c.in_ok-targets.ensures.items
 
 pub returns-clause-read : goal.returns-clause-read
 returns-clause-read c =
-    subst (AreTargetsRead c.args.symbols c.args.settled.now c.args.found.now) (sym (written c)) (targets-read c.args.symbols c.args.settled.now c.args.found.now)
+    subst (λ (ts : List (Option ℕ)). AreTargetsRead c.args.symbols ts c.args.found.now c.write_targets.new.targets.items) (settled-is c) c.in_ok-write_targets.ensures.read
 
 pub returns-clause-below : goal.returns-clause-below
 returns-clause-below c = λ n below each.
-    subst (AreBelow n) (sym (written c)) (targets-below c.args.symbols c.args.settled.now c.args.found.now n below each)
+    c.in_ok-write_targets.ensures.below n (subst (λ (ts : List (Option ℕ)). AreBelow n ts) (sym (settled-is c)) below) each

@@ -1,4 +1,4 @@
-use Rattle.std.proofs.Common.{◌≡◌, ◌∙◌, Bool, Err, List, None, ap, arith, length, subst, sym}
+use Rattle.std.proofs.Common.{◌≡◌, ◌∙◌, Bool, Err, List, None, Option, ap, arith, length, refl, subst, sym}
 use Rattle.std.specs.List.{filter_map}
 use Rattle.link_files.specs.Inputs.{objects_in}
 use Rattle.link_groups.specs.declared.group.Group.{Group}
@@ -18,9 +18,13 @@ use Rattle.link_rules.proofs.WorldOnce.{one-loaded}
 use Rattle.link_work.specs.Planned.{opening_of}
 use Rattle.link_work.proofs.AnswerFlags.{claimed-are, closed-length, flags-are, work-is}
 use Rattle.link_db.proofs.Causes.{neither, tells-other, tells-through}
+use Rattle.link_symbols.specs.Lookups.{AreBelow}
+use Rattle.link_work.specs.Answer.{AreFoundBelow}
+use Rattle.link_work.specs.declared.found.FoundItem.{FoundItem}
+use Rattle.link_db.specs.Database.{symbol_names}
 use Rattle.link_db.specs.Seen.{seen}
-use Rattle.link_resolve.specs.Known.{Known}
-use Rattle.link_resolve.proofs.Loaded.{all-named, is-loaded-selection, not-empty, opened}
+use Rattle.link_resolve.specs.Resolving.{Resolving}
+use Rattle.link_resolve.proofs.Loaded.{all-named, is-loaded-selection, not-empty, opened, read-as}
 use Rattle.link_resolve.proofs.resolver.Resolver.load_batch.Goals as goal
 
 -- a section of a newly loaded object that is a member twice
@@ -51,9 +55,21 @@ returns-clause-cause g c = λ demangle w at fine marks loaded.
 pub returns-clause-selection : goal.returns-clause-selection
 returns-clause-selection g c = λ demangle w at marks loaded.
     let is = opened c.self.view_is at in
+    let db = seen c.args.db.now in
     let found = c.in_ok-found.found in
-    is-loaded-selection (platform_of g.P.Platform) demangle (seen c.args.db.now) w marks found.loaded.items found.targets.items c.new.result.items _ is.stage
-    (c.in_ok-found.ensures.loaded demangle w is) loaded (c.in_ok-found.ensures.targets demangle w is) c.new-2.ensures
+    let known = c.add_batch.new.self in
+    let read = read-as c.num_symbols-symbols.result (length (symbol_names db)) c.self.inside.resolved.targets c.self.inside.resolved.targets c.deref-2.result.now found.found.items known.targets
+    c.num_symbols-symbols.ensures.value refl c.deref-2.ensures.value c.in_ok-add_batch.ensures.targets in
+    is-loaded-selection (platform_of g.P.Platform) demangle db w marks found.loaded.items known.targets known.strengths known is.stage
+    (c.in_ok-found.ensures.loaded demangle w is) loaded (c.in_ok-found.ensures.targets demangle w is known.targets read)
+    (ap (λ (ms : List Bool). record known { marks = ms }) c.in_ok-add_batch.ensures.marks)
+
+-- all of them are symbols
+pub returns-clause-targets : goal.returns-clause-targets
+returns-clause-targets g c =
+    let n = length (symbol_names (seen c.args.db.now)) in
+    let found = subst (λ (fs : List (Option FoundItem)). AreFoundBelow n fs) (sym c.deref-2.ensures.value) c.in_ok-found.ensures.below in
+    c.in_ok-add_batch.ensures.below n (subst (λ (r : Resolving). AreBelow n r.known.targets) (sym c.self.view_is) c.requires.targets) found
 
 -- the flags are the words' own
 pub returns-clause-flags : goal.returns-clause-flags
@@ -90,4 +106,4 @@ returns-clause-requests g c = λ demangle w at marks loaded.
 
 pub returns-clause-counted : goal.returns-clause-counted
 returns-clause-counted g c =
-    c.in_ok-found.ensures.requests ∙ ap (λ (k : Known). requests_of c.in_ok-found.found.closed.view.work k.marks) (sym c.new-2.ensures)
+    c.in_ok-found.ensures.requests ∙ ap (λ (ms : List Bool). requests_of c.in_ok-found.found.closed.view.work ms) (sym c.in_ok-add_batch.ensures.marks)

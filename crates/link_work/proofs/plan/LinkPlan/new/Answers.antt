@@ -49,7 +49,7 @@ invariant_of-result g c =
     let roots = c.in_ok-roots.roots.items in
     let marks = c.in_ok-is_root.is_root.items in
     let root_marks : List Mark = map mark_of_pair c.in_ok-root_marks.root_marks.items in
-    let opening : List ℕ = c.in_ok-opening.opening.items in
+    let opening : List ℕ = opening_of c.num_symbols-symbols.result (numbers_of (words_of c.args.flags.now)) in
     let n = length (symbol_names db) in
     let items : c.in_ok-items.items.items ≡ all_items 0 objects = c.in_ok-items.ensures ∙ ap (all_items 0) c.deref.ensures.value in
     let stand : known.sources ≡ sources_of (symbols_in groups) = refl in
@@ -58,7 +58,7 @@ invariant_of-result g c =
     let rooted : roots ≡ filter (is_marked marks) (range_with_len 0 (length marks)) =
     c.in_ok-roots.ensures ∙ ap (λ (ms : List Bool). filter (is_marked ms) (range_with_len 0 (length ms))) c.deref-3.ensures.value in
     let begun : length opening ≡ n =
-    ap (λ (l : List ℕ). length l) c.in_ok-opening.ensures.bits ∙ (length-map-range_with_len (slice_index (numbers_of (words_of c.args.flags.now))) 0 c.num_symbols.result ∙ c.num_symbols.ensures.value) in
+    length-map-range_with_len (slice_index (numbers_of (words_of c.args.flags.now))) 0 c.num_symbols-symbols.result ∙ c.num_symbols-symbols.ensures.value in
     let root : (f : ℕ) → Contains roots f → f < length objects = λ f within.
     let below = range_from (length marks) f (filtered (is_marked marks) (range_with_len 0 (length marks)) f (subst (λ (l : List ℕ). Contains l f) rooted within)) in omega (arith, below, each) in
     let root_mark : (m : Mark) → Contains root_marks m → m.symbol < length opening = λ m within.
@@ -67,20 +67,20 @@ invariant_of-result g c =
     subst (λ (k : Mark). k.symbol < length opening) made.2 (omega (arith, below, begun)) in
     let means : (x : Symbol) → IfSome (known.target x) (λ t. t < length opening) = λ x.
     subst (λ k. IfSome (known.target x) (λ t. t < k)) (sym begun) (c.targets_are_symbols.ensures (is_open x) x.name x.version) in
-    let opens : (x : ℕ) → x < length opening → slice_index opening x < 2 ^ 32 = λ x below. c.in_ok-opening.ensures.fits x 0 below in
+    let opens : (x : ℕ) → x < length opening → slice_index opening x < 2 ^ 32 = λ x below. c.opening_bits_are_small.ensures x 0 below in
     let root_fits : (m : Mark) → Contains root_marks m → m.bits < 2 ^ 32 = λ m within.
     let made = map_from (λ t. mark_on t flag.has_non_ir_ref) _ m (subst (λ (ms : List Mark). Contains ms m) c.in_ok-root_marks.ensures.marks within) in
     subst (λ (k : Mark). k.bits < 2 ^ 32) made.2 (omega arith) in
     record {
       cut = items;
-      begun = begun;
+      all = c.num_symbols-symbols.ensures.value;
       rooted = rooted;
       each = each;
       own = λ f o is. c.in_ok-objects.ensures.symbols f o is ∙ ap (λ (h : HeldFiles g.row.P.Denot). symbols_of_object f (symbols_in h.groups)) c.files.ensures;
       is_sound = subst (λ (its : List WorkItem). IsSound (planned known objects its roots root_marks opening)) (sym items)
           (plan-sound known objects roots root_marks opening groups stand count root root_mark means);
       does_fit = subst (λ (its : List WorkItem). FitsU32 (planned known objects its roots root_marks opening)) (sym items)
-          (plan-fits known objects roots root_marks opening (omega (arith, begun, c.num_symbols.ensures.value, c.num_symbols.ensures.fits)) opens root_fits);
+          (plan-fits known objects roots root_marks opening (omega (arith, begun, c.num_symbols-symbols.ensures.value, c.num_symbols-symbols.ensures.fits)) opens root_fits);
     }
 
 -- it is the work of each stage, by what is known there
@@ -96,8 +96,7 @@ returns g c = record {
     symbols = λ f o is.
         c.in_ok-objects.ensures.symbols f o is ∙ (ap (λ (h : HeldFiles g.row.P.Denot). symbols_of_object f (symbols_in h.groups)) c.files.ensures ∙ ap (symbols_of_object f) (sym at.symbols));
   };
-  symbols =
-      ap (λ (l : List ℕ). length l) c.in_ok-opening.ensures.bits ∙ (length-map-range_with_len (slice_index (numbers_of (words_of c.args.flags.now))) 0 c.num_symbols.result ∙ c.num_symbols.ensures.value);
+  symbols = c.num_symbols-symbols.ensures.value;
   work = λ demangle w at loaded settled.
       let db = seen c.args.db.now in
       let groups = db.mapping.files.groups in
@@ -106,7 +105,7 @@ returns g c = record {
       let roots = c.in_ok-roots.roots.items in
       let marks = c.in_ok-is_root.is_root.items in
       let root_marks : List Mark = map mark_of_pair c.in_ok-root_marks.root_marks.items in
-      let opening : List ℕ = c.in_ok-opening.opening.items in
+      let opening : List ℕ = opening_of c.num_symbols-symbols.result (numbers_of (words_of c.args.flags.now)) in
       let items : c.in_ok-items.items.items ≡ all_items 0 objects = c.in_ok-items.ensures ∙ ap (all_items 0) c.deref.ensures.value in
       let stand : known.sources ≡ sources_of w.symbols = ap sources_of (sym at.symbols) in
       let count : length objects ≡ length w.objects =
@@ -123,5 +122,5 @@ returns g c = record {
       ∙ ap (λ (m : Mapping). marks_on_names m (option_to_list (entry_name w) ++ redirect_targets w)) mapping) in
       ap (λ (its : List WorkItem). planned known objects its roots root_marks opening) items
       ∙ (planned-is w known objects roots root_marks opening stand (sym settled) (λ x. stands-for (platform_of g.P.Platform) demangle db w at x) count have rooted marked
-      ∙ ap (λ (os : List ℕ). record (workload_of w) { opening = os }) (c.in_ok-opening.ensures.bits ∙ ap (λ n. opening_of n (numbers_of (words_of c.args.flags.now))) c.num_symbols.ensures.value));
+      ∙ ap (λ n. record (workload_of w) { opening = opening_of n (numbers_of (words_of c.args.flags.now)) }) c.num_symbols-symbols.ensures.value);
 }
