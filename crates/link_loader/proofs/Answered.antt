@@ -1,5 +1,5 @@
 -- What is answered of a name is what the rules of the link say.
-use Rattle.std.proofs.Common.{◌≡◌, ℕ, List, [], ◌∷◌, Bool, true, false, Option, Some, None, Result, length, refl, sym, ap, subst, arith, ◌∙◌}
+use Rattle.std.proofs.Common.{◌≡◌, ℕ, List, [], ◌∷◌, Bool, true, false, Option, Some, None, Result, refl, sym, ap, subst, ◌∙◌}
 use Rattle.std.specs.Prelude.{◌↔◌, ◌||◌, IsTrue, not, is_some, option_map}
 use Rattle.std.specs.List.{list_any}
 use Rattle.link_names.specs.Names.{Names, is_member}
@@ -15,7 +15,7 @@ use Rattle.link_script.specs.declared.script.VersionScript.TheVariants.{Regular,
 use Rattle.link_script.specs.ExportList.{IsListed, IsListOf}
 use Rattle.link_script.specs.Filter.{AreVersions}
 use Rattle.link_script.specs.ListedNames.{ListedNames}
-use Rattle.link_script.specs.Lookup.{Asked, asked}
+use Rattle.link_script.specs.Lookup.{asked}
 use Rattle.link_script.specs.Rank.{filters_in, IsBest}
 use Rattle.link_script.specs.Script.{versions_in, IsScriptOf, IsVersionBy}
 use Rattle.link_script.specs.VersionOf.{Undeclared, is_local_match}
@@ -26,7 +26,7 @@ use Rattle.link_input.specs.Entries.{is_local, is_undefined}
 use Rattle.link_rules.specs.Opening.{is_non_interposable, script_flags}
 use Rattle.link_rules.specs.World.{Stage}
 use Rattle.link_rules.specs.Places.{Bytes}
-use Rattle.link_rules.specs.Matching.{entry_fits}
+use Rattle.link_rules.specs.Matching.{entry_fits, is_local_by}
 use Rattle.link_rules.specs.Rules.{PlatformRules, Rules, exported_by, list_of, script_of, taken_text}
 use Rattle.link_loader.specs.Holds.{AreRulesOf, IsListIf, IsListRead, exported_entries, is_listing}
 use Rattle.link_loader.specs.ReadTexts.{ReadTexts, HasNames}
@@ -49,11 +49,10 @@ listing_some : (b : Bool) (entries : List ParsedSymbolMatcher) (required : List 
 listing_some true entries required list is = (refl, is)
 listing_some false entries required list is = absurd is
 
--- where there are no versions, nothing matches
-pub none_matched : (versions : List Version) (raws : List RawVersion) (a : Asked) → length versions ≡ 0 → AreVersions raws versions → IsBest (filters_in raws) a None
-none_matched [] [] a e are = λ p match. let no : None ≡ Some match.there.0 = match.there.1 in absurd cc
-none_matched [] (raw ∷ raws) a e are = absurd are
-none_matched (v ∷ versions) raws a e are = absurd (omega (arith, e))
+-- where there is no text of a script of versions, no name is local
+none_local : (demangle : Bytes → Bytes) (text : Option Bytes) (name : Bytes) → is_some text ≡ false → is_local_by (script_of text) (asked demangle name) ≡ false
+none_local demangle None name e = refl
+none_local demangle (Some text) name e = absurd cc
 
 -- ---- answers
 
@@ -95,6 +94,12 @@ module _ (platform : PlatformRules) (demangle : Bytes → Bytes) (read : ReadTex
       ap not (has name)
       ∙ rust_local_is raw script (asked demangle name) (script_is (Rust script) is)
       ∙ sym (ap (λ (r : Rules). r.is_local_name name) are.same)
+
+  -- where none was taken, no name is local
+  pub untaken_local : (name : Bytes) → read.is_taken ≡ false → false ≡ rules.is_local_name name
+  untaken_local name untaken =
+      sym (ap (λ (r : Rules). r.is_local_name name) are.same
+      ∙ none_local demangle (taken_text are.texts are.scripts) name (sym are.holds.taken ∙ untaken))
 
   -- the version of a name
   pub version_is : (name : Bytes) (explicit : Option Bytes) (answer : Result (Option ℕ) Undeclared)

@@ -156,14 +156,12 @@ impl<P: Platform> TextRules<P> {
         ensures { (rules : Rules) → AreRulesOf (platform_of P.Platform) (D.demangled demangler.now) self.now rules
             → result ≡ rules.is_local_name name.now }
     {
+        // Most links have no version script: then no name is looked up.
+        if !self.is_taken {
+            return false;
+        }
         match &self.version_script {
-            VersionScript::Regular(script) => {
-                // Most links have no version script: then no name is looked up.
-                if script.version_iter().is_empty() {
-                    return false;
-                }
-                script.is_local(name, demangler)
-            }
+            VersionScript::Regular(script) => script.is_local(name, demangler),
             VersionScript::Rust(_) => !self.listed.contains(name),
         }
     }
