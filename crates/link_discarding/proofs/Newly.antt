@@ -1,18 +1,20 @@
 -- The groups of objects that a batch loads, where those that earlier batches had loaded were checked then.
 use Rattle.std.proofs.Common.{◌≡◌, ◌∙◌, ◌+◌, ◌≤◌, ◌++◌, ℕ, zero, suc, Bool, true, false, List, [], ◌∷◌, Option, None, Some, arith, Err, Ok, Result, cond, get_or, length, filter, refl, sym, ap, subst}
-use Rattle.std.specs.Prelude.{◌&&◌, filter_map, not}
-use Rattle.std.specs.List.{cons_option, enumerate_from}
+use Rattle.std.specs.Prelude.{◌&&◌, filter_map, not, option_map}
+use Rattle.std.specs.List.{cons_option, enumerate_from, flat_map}
 use Rattle.std.specs.Result.{IsErr, IsErrAnd}
 use Rattle.std.proofs.lemmas.List.{get_or_past}
 use Rattle.link_closure.specs.Closure.{is_marked}
 use Rattle.link_input.specs.ObjectFile.{ObjectFile}
 use Rattle.link_loader.specs.Causes.{TellsCause}
 use Rattle.link_rules.specs.Comdat.{loaded_regular}
-use Rattle.link_rules.specs.Places.{each_from, first_of}
-use Rattle.link_rules.specs.Refusals.{group_cause}
+use Rattle.link_rules.specs.Places.{each_from, first_of, is_empty}
+use Rattle.link_rules.specs.Refusals.{first_repeated, group_cause}
 use Rattle.link_rules.specs.World.{Stage}
 use Rattle.link_rules.specs.declared.refusal.LinkError.{LinkError}
-use Rattle.link_discarding.specs.Checked.{WereGroupsFine, is_new}
+use Rattle.link_rules.specs.declared.refusal.LinkError.TheVariants.{SectionInTwoGroups}
+use Rattle.link_input.specs.declared.object.SectionGroup.{SectionGroup}
+use Rattle.link_discarding.specs.Checked.{WereGroupsFine, grouped_among, has_groups, is_new}
 use Rattle.link_discarding.specs.Regular.{regular_among}
 
 -- where there is no first one, there is none
@@ -77,6 +79,33 @@ newly-told w earlier loaded objects same before fine =
     ∙ by-regular (is_marked loaded o.0) (is_marked w.earlier.loaded o.0) (not o.1.object.is_dynamic)))
     (enumerate_from 0 w.objects) (first-none (filter_map group_cause (loaded_regular w w.earlier.loaded)) fine)
     ∙ ap (λ (os : List ObjectFile). filter_map group_cause (regular_among (each_from (is_new earlier) 0 loaded) os)) same)
+
+-- an object without groups lists no section twice
+no-groups : (o : ℕ × ObjectFile) → has_groups o ≡ false → group_cause o ≡ None
+no-groups o none = by o.1.object.groups refl
+  where
+    by : (groups : List SectionGroup) → o.1.object.groups ≡ groups → group_cause o ≡ None
+    by [] is = ap (λ (gs : List SectionGroup). option_map (λ section. SectionInTwoGroups o.1.input section) (first_repeated [] (flat_map (λ g. g.members) gs))) is
+    by (g ∷ gs) is = let some : true ≡ false = sym (ap (λ (gs : List SectionGroup). not (is_empty gs)) is) ∙ none in absurd (cc)
+
+-- causes are told by those that pass a test, where those that fail it have none
+module _ {A B : Type 0} (cause : A → Option B) (p q : A → Bool) (without : (x : A) → q x ≡ false → cause x ≡ None) where
+  one-more : (a b : Bool) (x : A) (xs : List A) → q x ≡ b → filter_map cause (filter p xs) ≡ filter_map cause (filter (λ y. p y && q y) xs)
+      → filter_map cause (cond a (x ∷ filter p xs) (filter p xs)) ≡ filter_map cause (cond (a && b) (x ∷ filter (λ y. p y && q y) xs) (filter (λ y. p y && q y) xs))
+  one-more false b x xs is rest = rest
+  one-more true true x xs is rest = ap (λ l. cons_option (cause x) l) rest
+  one-more true false x xs is rest = ap (λ c. cons_option c (filter_map cause (filter p xs))) (without x is) ∙ rest
+
+  pub tested-causes : (xs : List A) → filter_map cause (filter p xs) ≡ filter_map cause (filter (λ x. p x && q x) xs)
+  tested-causes [] = refl
+  tested-causes (x ∷ xs) = one-more (p x) (q x) x xs refl (tested-causes xs)
+
+-- the cause that regular objects tell is that of those that have groups
+pub grouped-told : (marks : List Bool) (objects : List ObjectFile)
+    → first_of (filter_map group_cause (regular_among marks objects)) ≡ first_of (filter_map group_cause (grouped_among marks objects))
+grouped-told marks objects =
+    ap (λ (cs : List LinkError). first_of cs)
+    (tested-causes group_cause (λ o. is_marked marks o.0 && not o.1.object.is_dynamic) has_groups no-groups (enumerate_from 0 objects))
 
 -- objects behind the last mark are not loaded
 past-marks : (marks : List Bool) (n : ℕ) (objects : List ObjectFile) → length marks ≤ n → filter (λ o. is_marked marks o.0 && not o.1.object.is_dynamic) (enumerate_from n objects) ≡ []

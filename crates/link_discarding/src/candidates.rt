@@ -4,6 +4,7 @@ ghost use Rattle.std.specs.Prelude.{◌≡◌, IfOk, map};
 ghost use Rattle.std.specs.List.Sorted.{IsStrictlyIncreasing};
 ghost use Rattle.link_closure.specs.Closure.{is_marked};
 ghost use Rattle.link_files.specs.Inputs.{objects_in};
+ghost use Rattle.link_discarding.specs.Checked.{grouped_among, has_groups};
 ghost use Rattle.link_discarding.specs.Regular.{regular_among};
 
 use crate::placed::placed_objects;
@@ -31,5 +32,28 @@ pub fn regular_candidates<'a, P: Platform>(
 {
     let mut candidates = placed_objects(alloc, groups)?;
     candidates.retain(|object| is_marked(loaded, object.place) && !object.parsed.is_dynamic());
+    Ok(candidates)
+}
+
+/// Whether the object has section groups.
+fn has_groups<P: Platform>(object: &Candidate<'_, P>) -> bool
+    ensures { result ≡ has_groups object.now }
+{
+    !object.parsed.object().groups().is_empty()
+}
+
+/// Those of `regular_candidates` that have section groups. The only refusal is want of memory.
+pub(crate) fn grouped_candidates<'a, P: Platform>(
+    alloc: Global,
+    groups: &'a [Group<P>],
+    loaded: &[bool],
+) -> Result<Vec<Candidate<'a, P>>, AllocError>
+    ensures value { IfOk result (λ candidates. candidates.items ≡ grouped_among loaded.now (objects_in groups.now)) }
+    ensures rise { IfOk result (λ candidates. IsStrictlyIncreasing (map (λ o. o.0) candidates.items)) }
+{
+    let mut candidates = placed_objects(alloc, groups)?;
+    candidates.retain(|object| {
+        is_marked(loaded, object.place) && !object.parsed.is_dynamic() && has_groups(object)
+    });
     Ok(candidates)
 }

@@ -10,7 +10,7 @@ ghost use Rattle.link_rules.specs.Refusals.{group_cause};
 ghost use Rattle.link_rules.specs.World.{Stage};
 ghost use Rattle.link_discarding.specs.Checked.{WereGroupsFine, is_new};
 
-use crate::candidates::{is_marked, regular_candidates};
+use crate::candidates::{grouped_candidates, is_marked};
 use link_comdat::Selection;
 use link_groups::Group;
 use link_input::Platform;
@@ -44,7 +44,8 @@ pub fn check_groups<P: Platform>(
         → TellsCause (first_of (filter_map group_cause (loaded_regular w loaded.now))) result }
 {
     let marks = newly_loaded(alloc, earlier, loaded)?;
-    let candidates = regular_candidates(alloc, groups, &marks)?;
+    // An object without groups lists no section twice, so nothing is made for it.
+    let candidates = grouped_candidates(alloc, groups, &marks)?;
     let _selection = Selection::select(alloc, &candidates)?;
     Ok(())
 }
