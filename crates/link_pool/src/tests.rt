@@ -15,8 +15,7 @@ use std::sync::atomic::{AtomicU64, Ordering};
 use std::test::Fail;
 use std::thread::Threads;
 
-/// Each file has one item, which requests two files and has one mark. In a chain both are the file before it, and no hint
-/// tells of an item.
+/// Each file has one item, which requests two files and has one mark. In a chain both are the file before it.
 #[derive(Drop)]
 struct Scattered {
     files: usize,
@@ -24,6 +23,9 @@ struct Scattered {
     chain: bool,
     // How often the file of an item was asked.
     looks: AtomicU64,
+    // How often the items of a file were asked, and which of these calls tells none, so that the hint of the file's item is lost.
+    calls: AtomicU64,
+    lost: Option<u64>,
     ghost small: { files ≤ 2 ^ 20 },
     ghost most: { roots ≤ files },
 }
@@ -40,6 +42,8 @@ impl Scattered {
             roots,
             chain,
             looks: AtomicU64::new(0),
+            calls: AtomicU64::new(0),
+            lost: None,
         }
     }
 
@@ -165,7 +169,8 @@ impl Readable for Scattered {
     }
 
     fn items_of(&self, file: usize) -> (usize, usize) {
-        (file, 1)
+        let call = self.calls.fetch_add(1, Ordering::SeqCst);
+        (file, if self.lost == Some(call) { 0 } else { 1 })
     }
 }
 
@@ -362,14 +367,23 @@ fn a_plan_without_files_is_read(rt: HostRuntime) -> Result<(), Fail> {
     Ok(())
 }
 
-/// One worker gets no hints: all is left to the sweep, which asks for the files of items a few times, and not anew for each link.
+/// Where the hint of one link is lost, all behind it is left to the sweep, which asks for the files of items a few times, and not anew for
+/// each link. One worker gets no hints at all.
 #[test]
-fn a_chain_without_hints_costs_few_looks(rt: HostRuntime) -> Result<(), Fail> {
-    let plan = Scattered::new(2000, 1, true);
-    let outcome = by_threads(&rt, rt.alloc(), &OpenGate, 1, &plan)?;
-    assert!(rt; outcome.claimed.iter().all(|claimed| *claimed));
-    assert!(rt; outcome.found.iter().all(|found| found.is_some()));
-    let looks = plan.looks.load(Ordering::SeqCst);
-    assert!(rt; looks <= 8000, "{looks} looks");
+fn a_chain_of_lost_hints_costs_few_looks(rt: HostRuntime) -> Result<(), Fail> {
+    for workers in [1, 2] {
+        for lost in [0, 1, 1000] {
+            let mut plan = Scattered::new(2000, 1, true);
+            plan.lost = Some(lost);
+            let outcome = by_threads(&rt, rt.alloc(), &OpenGate, workers, &plan)?;
+            assert!(rt; outcome.claimed.iter().all(|claimed| *claimed));
+            assert!(rt; outcome.found.iter().all(|found| found.is_some()));
+            let looks = plan.looks.load(Ordering::SeqCst);
+            assert!(rt;
+                looks <= 8000,
+                "{looks} looks with {workers} workers and call {lost} lost"
+            );
+        }
+    }
     Ok(())
 }
