@@ -128,6 +128,39 @@ impl Bucket {
         }
     }
 
+    /// Where a look for a hash number begins: 1 + the place of a head, or 0.
+    /// Where that is, is left open: who takes a guess checks it.
+    pub(crate) fn first_guess(&self, hash: u64) -> usize {
+        self.places.first(hash)
+    }
+
+    /// A guess, where its head has the hash number, and else the next one behind it, which so many heads stand before.
+    /// Which it is, is left open: who takes a guess checks it.
+    pub(crate) fn next_guess(&self, hash: u64, depth: usize, guess: usize) -> usize {
+        if guess == 0 || self.has_hash(guess - 1, hash) {
+            return guess;
+        }
+        self.places.next(guess - 1, depth, hash)
+    }
+
+    /// The place of the key of the label. It is looked for at a guess first, which is 1 + a place, or 0.
+    fn place_by_guess<T: Names>(
+        &self,
+        table: &T,
+        hash: u64,
+        label: Label,
+        guess: usize,
+    ) -> Option<usize>
+        requires keyed { IsKeyed (T.key_at table.now) self.now }
+        requires hashed { number_of (T.key_at table.now) label ≡ Some hash }
+        ensures { result ≡ place_from (is_labelled (T.key_at table.now) label) 0 (heads_in self.now) }
+    {
+        if guess > 0 && self.is_labelled(table, guess - 1, hash, label) {
+            return Some(guess - 1);
+        }
+        self.place_of_label(table, hash, label)
+    }
+
     /// The place of the key of the label.
     fn place_of_label<T: Names>(&self, table: &T, hash: u64, label: Label) -> Option<usize>
         requires keyed { IsKeyed (T.key_at table.now) self.now }
@@ -183,13 +216,15 @@ impl Bucket {
         Ok(())
     }
 
-    /// Adds a definition at the end of those of the label's key.
+    /// Adds a definition at the end of those of the label's key, which is looked for at a guess first: 1 + the place of a head, or 0. No guess
+    /// changes what is added.
     pub fn add<T: Names>(
         &mut self,
         table: &T,
         hash: u64,
         label: Label,
         id: u32,
+        guess: usize,
     ) -> Result<(), AllocError>
         requires keyed { IsKeyed (T.key_at table.now) self.old }
         requires hashed { number_of (T.key_at table.now) label ≡ Some hash }
@@ -204,7 +239,7 @@ impl Bucket {
         ensures labels_err { OnErr result ((asked : Key) → label_in (T.key_at table.now) self.new asked ≡ label_in (T.key_at table.now) self.old asked) }
     {
         let alloc = self.alloc;
-        match self.place_of_label(table, hash, label) {
+        match self.place_by_guess(table, hash, label, guess) {
             Some(place) => {
                 let head = &mut self.heads[place];
                 head.add(alloc, id)

@@ -94,7 +94,7 @@ impl Buckets {
     {
         let place = self.place_of(hash);
         let bucket = &mut self.buckets[place];
-        bucket.add(table, hash, label, id)
+        bucket.add(table, hash, label, id, 0)
     }
 
     /// The definitions of the name and version, where it has some.

@@ -1,6 +1,6 @@
 //! A filter of hash numbers.
 
-ghost use Rattle.std.specs.Prelude.{◌≡◌, ℕ, IsTrue};
+ghost use Rattle.std.specs.Prelude.{◌≡◌, ◌==◌, ℕ, IsTrue, length};
 ghost use Rattle.link_buckets.specs.Slots.{may_hold};
 
 use crate::slots::slot_among;
@@ -39,6 +39,13 @@ impl Filter {
     pub(crate) fn with_room(alloc: Global, numbers: usize) -> Result<Self, AllocError> {
         let words = vec![in alloc; 0; (numbers / 8).max(1)]?;
         Ok(Filter { words })
+    }
+
+    /// Whether it tells nothing.
+    pub(crate) fn is_empty(&self) -> bool
+        ensures { result ≡ (length self.now == 0) }
+    {
+        self.words.is_empty()
     }
 
     /// Notes a number that came.

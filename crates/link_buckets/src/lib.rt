@@ -2,6 +2,7 @@
 //! a bucket keeps hash numbers and labels, and compares bytes through the tables that hold the names.
 #![tactic(auto)]
 
+mod ahead;
 mod bucket;
 mod buckets;
 mod definition;

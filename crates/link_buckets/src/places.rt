@@ -5,7 +5,7 @@ ghost use Rattle.std.specs.Prelude.{◌≡◌, ◌<◌, ◌≤◌, ◌^◌, leng
 use crate::filter::Filter;
 use crate::head::Head;
 use crate::slots::{slot_among, slots_for};
-use crate::walk::{Fork, Walk, clear};
+use crate::walk::{Fork, Walk, bit_at, clear, link_at};
 use std::alloc::{AllocError, Global};
 
 /// Trees of the heads of a bucket, which it names by their places. A hash number falls in a slot, which says 1 + the place of the first
@@ -16,7 +16,8 @@ use std::alloc::{AllocError, Global};
 pub(crate) struct Places {
     slots: Vec<u32>,
     forks: Vec<Fork>,
-    /// Tells of most numbers that didn't come that they didn't.
+    /// Tells of most numbers that didn't come that they didn't. It is made where heads come behind others, as those of a second batch: of one
+    /// batch alone each number is looked for once, which costs no more than a look at the filter.
     filter: Filter,
     alloc: Global,
     ghost roomy: { length forks.items ≤ length slots.items },
@@ -27,7 +28,7 @@ impl Places {
     ghost use Rattle.std.specs.Prelude.{ℕ, List, ◌++◌, [], ◌∷◌, ◌+◌, OnOk, OnErr, Some, slice_get, slice_index};
     ghost use Rattle.link_buckets.specs.Heads.{hashes_of};
     ghost use Rattle.link_buckets.specs.Slots.{may_hold, slot_of};
-    ghost use Rattle.link_buckets.specs.Walks.{AreHung, HaveWalks, walk_of};
+    ghost use Rattle.link_buckets.specs.Walks.{AreHung, HaveWalks, bit_at, link_at, walk_of};
 
     /// Nothing noted. Takes no memory.
     pub(crate) fn new(alloc: Global) -> Self
@@ -42,13 +43,20 @@ impl Places {
     }
 
     /// 1 + the place of the first head in the number's slot, or 0.
-    fn first(&self, number: u64) -> usize
+    pub(crate) fn first(&self, number: u64) -> usize
         ensures { result ≡ slice_index self.now.slots.items (slot_of (length self.now.slots.items) number) }
     {
         if self.slots.is_empty() {
             return 0;
         }
         self.slots[slot_among(number, self.slots.len())] as usize
+    }
+
+    /// What hangs on the head at a place, where the number's walk turns at a depth: 1 + the place of another one, or 0.
+    pub(crate) fn next(&self, place: usize, depth: usize, number: u64) -> usize
+        ensures { result ≡ link_at self.now.forks.items place (bit_at number depth) }
+    {
+        link_at(self.forks.as_slice(), place, bit_at(number, depth))
     }
 
     /// The heads that the number's walk passes. All heads with this number are among them.
@@ -88,6 +96,15 @@ impl Places {
         }
     }
 
+    /// A filter for so many slots, of which no number came yet; where there are no heads, one that tells nothing.
+    /// Its size is left open: it only tells how many numbers share a bit.
+    fn filter_for(alloc: Global, heads: &[Head], slots: usize) -> Result<Filter, AllocError> {
+        if heads.is_empty() {
+            return Ok(Filter::new(alloc));
+        }
+        Filter::with_room(alloc, slots)
+    }
+
     /// Makes so many slots, and hangs these heads anew.
     fn remake(&mut self, heads: &[Head], slots: usize) -> Result<(), AllocError>
         requires each { length self.old.forks.items ≡ length heads.now }
@@ -96,7 +113,7 @@ impl Places {
         ensures slots { OnOk result (length self.new.slots.items ≡ slots) }
         ensures err { OnErr result (self.new ≡ self.old) }
     {
-        let filter = Filter::with_room(self.alloc, slots)?;
+        let filter = Self::filter_for(self.alloc, heads, slots)?;
         self.slots = vec![in self.alloc; 0; slots]?;
         self.filter = filter;
         clear(self.forks.as_mut_slice());
@@ -124,7 +141,11 @@ impl Places {
         requires walks { HaveWalks self.old (hashes_of heads.now) }
         ensures walks { HaveWalks self.new (hashes_of heads.now) }
     {
-        self.prepare(heads, heads.len().saturating_add(more))?;
+        let wanted = heads.len().saturating_add(more);
+        if self.filter.is_empty() && !heads.is_empty() {
+            self.remake(heads, slots_for(wanted))?;
+        }
+        self.prepare(heads, wanted)?;
         self.forks.reserve(more)
     }
 

@@ -5,6 +5,7 @@ ghost use Rattle.link_buckets.specs.Buckets.{AreHashed};
 ghost use Rattle.link_buckets.specs.Keys.{number_of};
 ghost use Rattle.link_buckets.specs.Runs.{AreGrown, AreOwn, AreTaken, joined};
 
+use crate::ahead::{AHEAD, Guesses};
 use crate::bucket::Bucket;
 use crate::definition::Definition;
 use crate::label::Names;
@@ -12,7 +13,7 @@ use crate::shares::place_among;
 use std::alloc::AllocError;
 
 /// Where the bucket of a hash number stands in a run of `len` buckets, of which the first has the place `first` among `count`.
-fn place_in_run(hash: u64, count: usize, first: usize, len: usize) -> Option<usize>
+pub(crate) fn place_in_run(hash: u64, count: usize, first: usize, len: usize) -> Option<usize>
     requires { 0 < count }
     ensures found { IfSome result (λ at. (at < len) × (hash % count ≡ first + at)) }
     ensures none { IfNone result ((at : ℕ) → at < len → hash % count ≢ first + at) }
@@ -25,13 +26,14 @@ fn place_in_run(hash: u64, count: usize, first: usize, len: usize) -> Option<usi
 }
 
 /// Adds a definition to the bucket of its hash number, where that is one of the run. The first bucket of the run has the place `first`
-/// among `count` buckets.
+/// among `count` buckets. The key is looked for at a guess first.
 fn add_one<T: Names>(
     table: &T,
     count: usize,
     first: usize,
     run: &mut [Bucket],
     definition: Definition,
+    guess: usize,
 ) -> Result<(), AllocError>
     requires some { 0 < count }
     requires own { AreOwn (T.key_at table.now) count first run.old }
@@ -43,7 +45,8 @@ fn add_one<T: Names>(
         return Ok(());
     };
     let bucket = &mut run[at];
-    bucket.add(table, definition.hash, definition.label, definition.id)
+    let Definition { hash, label, id } = definition;
+    bucket.add(table, hash, label, id, guess)
 }
 
 /// Takes the last definition of a key away, where its bucket is one of the run.
@@ -116,8 +119,13 @@ fn apply_part<T: Names>(
     ensures ok { OnOk result (AreGrown (T.key_at table.now) count first definitions.now run.old run.new) }
     ensures err { OnErr result (AreGrown (T.key_at table.now) count first [] run.old run.new) }
 {
+    let mut guesses = Guesses::none();
     for (at, definition) in definitions.iter().enumerate() {
-        if let Err(error) = add_one(table, count, first, run, *definition) {
+        if at % AHEAD == 0 {
+            guesses.make(count, first, run, &definitions[at..]);
+        }
+        let guess = guesses.at(at);
+        if let Err(error) = add_one(table, count, first, run, *definition, guess) {
             undo_part(table, count, first, run, &definitions[..at]);
             return Err(error);
         }

@@ -7,7 +7,7 @@ ghost use Rattle.link_buckets.specs.Walks.{bit_at, link_at, side_of};
 use std::marker::Model;
 
 /// Whether a walk by a hash number turns right at a depth. The highest bit tells it first, since the lower ones picked bucket and slot.
-fn bit_at(number: u64, depth: usize) -> bool
+pub(crate) fn bit_at(number: u64, depth: usize) -> bool
     ensures { result ≡ bit_at number depth }
 {
     (number >> (63 - depth % 64)) & 1 == 1
@@ -106,7 +106,7 @@ impl<'a> Iterator for Walk<'a> {
 }
 
 /// What hangs on a side of the head at the place.
-fn link_at(forks: &[Fork], place: usize, right: bool) -> usize
+pub(crate) fn link_at(forks: &[Fork], place: usize, right: bool) -> usize
     ensures { result ≡ link_at forks.now place right }
 {
     match forks.get(place) {
