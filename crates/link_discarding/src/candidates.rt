@@ -52,8 +52,9 @@ pub(crate) fn grouped_candidates<'a, P: Platform>(
     ensures rise { IfOk result (λ candidates. IsStrictlyIncreasing (map (λ o. o.0) candidates.items)) }
 {
     let mut candidates = placed_objects(alloc, groups)?;
+    // Most objects have no groups: of those nothing more is looked at.
     candidates.retain(|object| {
-        is_marked(loaded, object.place) && !object.parsed.is_dynamic() && has_groups(object)
+        is_marked(loaded, object.place) && has_groups(object) && !object.parsed.is_dynamic()
     });
     Ok(candidates)
 }
