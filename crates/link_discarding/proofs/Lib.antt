@@ -7,3 +7,4 @@ pub mod Numbered
 pub mod Named
 pub mod Listing
 pub mod Newly
+pub mod Marked

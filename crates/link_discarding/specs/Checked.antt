@@ -16,6 +16,10 @@ is_new earlier f mark = mark && not (is_marked earlier f)
 abbrev pub has_groups : ℕ × ObjectFile → Bool
 has_groups o = not (is_empty o.1.object.groups)
 
+-- the object at this place is loaded by its mark, not shared, and has section groups
+abbrev pub is_grouped : List Bool → ℕ → ObjectFile → Bool
+is_grouped marks f o = (is_marked marks f && not o.object.is_dynamic) && has_groups (f, o)
+
 -- the loaded objects that are not shared and have section groups, each with its place
 abbrev pub grouped_among : List Bool → List ObjectFile → List (ℕ × ObjectFile)
 grouped_among marks objects = filter (λ o. (is_marked marks o.0 && not o.1.object.is_dynamic) && has_groups o) (enumerate_from 0 objects)

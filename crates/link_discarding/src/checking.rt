@@ -12,7 +12,7 @@ ghost use Rattle.link_discarding.specs.Checked.{WereGroupsFine, is_new};
 
 use crate::candidates::{grouped_candidates, is_marked};
 use link_comdat::Selection;
-use link_groups::Group;
+use link_files::Files;
 use link_input::Platform;
 use link_rules::LinkError;
 use std::alloc::{AllocError, Global};
@@ -36,16 +36,16 @@ fn newly_loaded(alloc: Global, earlier: &[bool], loaded: &[bool]) -> Result<Vec<
 /// that was listed before. The only other refusal is want of memory.
 pub fn check_groups<P: Platform>(
     alloc: Global,
-    groups: &[Group<P>],
+    files: &Files<P>,
     earlier: &[bool],
     loaded: &[bool],
 ) -> Result<(), LinkError>
-    ensures cause { (w : Stage) → w.objects ≡ objects_in groups.now → w.earlier.loaded ≡ earlier.now → WereGroupsFine w
+    ensures cause { (w : Stage) → w.objects ≡ objects_in files.now.groups → w.earlier.loaded ≡ earlier.now → WereGroupsFine w
         → TellsCause (first_of (filter_map group_cause (loaded_regular w loaded.now))) result }
 {
     let marks = newly_loaded(alloc, earlier, loaded)?;
     // An object without groups lists no section twice, so nothing is made for it.
-    let candidates = grouped_candidates(alloc, groups, &marks)?;
+    let candidates = grouped_candidates(alloc, files, &marks)?;
     let _selection = Selection::select(alloc, &candidates)?;
     Ok(())
 }

@@ -1,7 +1,7 @@
 //! What passes over all files ask of each.
 
 ghost use Rattle.std.specs.Prelude.{◌≡◌, ◌++◌, IfOk, OnOk};
-ghost use Rattle.link_files.specs.Outlines.{group_outlines, outline_of, outlines_of};
+ghost use Rattle.link_files.specs.Outlines.{group_outlines, has_groups_file, outline_of, outlines_of};
 ghost use Rattle.link_groups.specs.SequencedInputs.{sequenced_file};
 ghost use Rattle.link_input.specs.InputFiles.{InputFile, object_count, symbol_count};
 
@@ -20,6 +20,8 @@ pub struct FileOutline {
     pub is_shared: bool,
     /// It is linked only where it is asked for.
     pub is_optional: bool,
+    /// It is an object that has section groups.
+    pub has_groups: bool,
 }
 
 impl FileOutline {
@@ -57,6 +59,19 @@ pub fn object_count<P: Platform>(file: &SequencedInput<P>) -> usize
     }
 }
 
+/// Whether a file is an object that has section groups.
+fn has_groups<P: Platform>(file: &SequencedInput<P>) -> bool
+    ensures { result ≡ has_groups_file (sequenced_file file.now).file }
+{
+    match file {
+        SequencedInput::Object(object) => !object.parsed.object().groups().is_empty(),
+        SequencedInput::Prelude(_)
+        | SequencedInput::LinkerScript(_)
+        | SequencedInput::StubLibrary(_)
+        | SequencedInput::SyntheticSymbols(_) => false,
+    }
+}
+
 /// The outline of a file.
 fn outline_of<P: Platform>(file: &SequencedInput<P>) -> FileOutline
     ensures { result ≡ outline_of (sequenced_file file.now).file }
@@ -66,6 +81,7 @@ fn outline_of<P: Platform>(file: &SequencedInput<P>) -> FileOutline
         is_object: object_count(file) == 1,
         is_shared: file.is_dynamic(),
         is_optional: file.is_optional(),
+        has_groups: has_groups(file),
     }
 }
 

@@ -1,4 +1,3 @@
-pub mod Listed
 pub mod Asking
 pub mod Below
 pub mod GroupObjects

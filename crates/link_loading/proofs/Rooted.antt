@@ -21,7 +21,7 @@ use Rattle.link_files.specs.declared.sources.SymbolSource.{SymbolSource}
 use Rattle.link_loading.specs.Objects.{is_kept, kept_marks}
 use Rattle.link_files.specs.Sources.{source_of, sources_of}
 use Rattle.link_loading.proofs.Below.{object-below}
-use Rattle.link_loading.proofs.Listed.{each-length}
+use Rattle.link_symbols.proofs.Listed.{each-length}
 
 -- the object of a symbol is told by its source
 pub object-there : (w : Stage) (s : ℕ) → option_and_then (λ (x : SymbolSource). x.object) (slice_get (sources_of w.symbols) s) ≡ object_of w s

@@ -9,7 +9,7 @@ use Rattle.link_closure.specs.Workload.{bits_for}
 use Rattle.link_closure.specs.declared.workload.Mark.{Mark}
 use Rattle.link_flags.specs.FlagWords.{numbers_of}
 use Rattle.link_flags.specs.declared.value_flags.RawFlags.{RawFlags}
-use Rattle.link_loading.proofs.Listed.{each-length}
+use Rattle.link_symbols.proofs.Listed.{each-length}
 use Rattle.link_rules.specs.Flags.{flags_if}
 use Rattle.link_flags.specs.FlagBits as flag
 use Rattle.link_input.specs.declared.options.OutputKind.{OutputKind}

@@ -334,7 +334,7 @@ impl Resolver {
             return Err(LinkError::NoInputs);
         }
         let found = loaded_objects(rt, alloc, gate, workers, db, &self.resolved, flags)?;
-        check_groups(alloc, db.groups(), self.resolved.loaded(), &found.loaded)?;
+        check_groups(alloc, db.files(), self.resolved.loaded(), &found.loaded)?;
         let LoadedObjects {
             closed,
             loaded,

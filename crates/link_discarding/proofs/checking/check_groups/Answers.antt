@@ -11,7 +11,7 @@ use Rattle.link_discarding.proofs.checking.check_groups.Goals as goal
 pub returns-in_err-_selection : goal.returns-in_err-_selection
 returns-in_err-_selection g c = record {
   cause = λ w same before fine.
-      let objects = objects_in c.args.groups.now in
+      let objects = objects_in c.args.files.now.groups in
       let marks = c.deref.ensures.value ∙ c.in_ok-marks.ensures in
       let are : c.deref-2.result.now ≡ grouped_among (each_from (is_new c.args.earlier.now) 0 c.args.loaded.now) objects =
       c.deref-2.ensures.value ∙ (c.in_ok-candidates.ensures.value ∙ ap (λ ms. grouped_among ms objects) marks) in
@@ -24,7 +24,7 @@ returns-in_err-_selection g c = record {
 pub returns : goal.returns
 returns g c = record {
   cause = λ w same before fine.
-      let objects = objects_in c.args.groups.now in
+      let objects = objects_in c.args.files.now.groups in
       let marks = c.deref.ensures.value ∙ c.in_ok-marks.ensures in
       let are : c.deref-2.result.now ≡ grouped_among (each_from (is_new c.args.earlier.now) 0 c.args.loaded.now) objects =
       c.deref-2.ensures.value ∙ (c.in_ok-candidates.ensures.value ∙ ap (λ ms. grouped_among ms objects) marks) in

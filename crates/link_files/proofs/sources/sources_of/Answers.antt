@@ -16,9 +16,9 @@ loop-outline-preserved c =
     let told = c.args.outlines.now in (
       omega (arith, c.objects_behind-before.ensures.few),
       λ files all.
-          let read : FileOutline = get_or told i (record { symbols = 0; is_object = false; is_shared = false; is_optional = false }) in
+          let read : FileOutline = get_or told i (record { symbols = 0; is_object = false; is_shared = false; is_optional = false; has_groups = false }) in
           let inside : i < length (outlines files) = subst (λ (l : List FileOutline). i < length l) all c.loop-outline-test.true in
-          let f = file-at files i read inside (get_or_default told (outlines files) i (record { symbols = 0; is_object = false; is_shared = false; is_optional = false }) all c.loop-outline-test.true) in
+          let f = file-at files i read inside (get_or_default told (outlines files) i (record { symbols = 0; is_object = false; is_shared = false; is_optional = false; has_groups = false }) all c.loop-outline-test.true) in
           sources-more files i c.loop-outline.before c.objects_behind-before.result f.0 c.loop-outline.sources.items c.push_sources.new.sources.items (sources_of (symbols_of c.args.objects (bare files))) f.1
           (c.in_ok-push_sources.ensures f.0.file f.2) (c.objects_behind-before.ensures.value f.0.file f.2) (c.loop-outline.invariant.1 files all),
     )

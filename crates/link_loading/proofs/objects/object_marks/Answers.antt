@@ -8,8 +8,8 @@ use Rattle.link_input.specs.SequencedFiles.{SequencedFile}
 use Rattle.link_rules.specs.Places.{each_from}
 use Rattle.link_files.proofs.Outlined.{file-at, get_or_default, length-outlines, outlines, outlines-are}
 use Rattle.link_symbols.specs.Walk.{objects_among}
+use Rattle.link_symbols.proofs.Marks.{marks-more}
 use Rattle.link_loading.specs.Objects.{is_kept, kept_marks}
-use Rattle.link_loading.proofs.GroupObjects.{marks-more}
 use Rattle.link_loading.proofs.objects.object_marks.Goals as goal
 
 -- a file more
@@ -19,9 +19,9 @@ loop-outline-preserved g c =
     let files : List SequencedFile = flat_map files_of groups in
     let i = c.loop-outline.outline-index in
     let all : c.outlines-outlines.result.now ≡ outlines files = c.outlines-outlines.ensures ∙ outlines-are groups in
-    let f = file-at files i (get_or c.outlines-outlines.result.now i (record { symbols = 0; is_object = false; is_shared = false; is_optional = false }))
+    let f = file-at files i (get_or c.outlines-outlines.result.now i (record { symbols = 0; is_object = false; is_shared = false; is_optional = false; has_groups = false }))
     (subst (λ (l : List FileOutline). i < length l) all c.loop-outline-test.true)
-    (get_or_default c.outlines-outlines.result.now (outlines files) i (record { symbols = 0; is_object = false; is_shared = false; is_optional = false }) all c.loop-outline-test.true) in
+    (get_or_default c.outlines-outlines.result.now (outlines files) i (record { symbols = 0; is_object = false; is_shared = false; is_optional = false; has_groups = false }) all c.loop-outline-test.true) in
     marks-more (is_kept c.args.earlier.now) files i f.0 c.loop-outline.marks.items c.push_mark.new.marks.items (kept_marks c.args.earlier.now (objects_in groups)) f.1
     (c.in_ok-push_mark.ensures f.0 f.2) c.loop-outline.invariant
 

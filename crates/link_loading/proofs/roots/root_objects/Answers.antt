@@ -14,7 +14,7 @@ use Rattle.link_rules.specs.Places.{Bytes}
 use Rattle.link_db.specs.Seen.{seen}
 use Rattle.link_loading.specs.Objects.{is_kept, kept_marks}
 use Rattle.link_files.specs.Sources.{sources_of}
-use Rattle.link_loading.proofs.Listed.{each-length}
+use Rattle.link_symbols.proofs.Listed.{each-length}
 use Rattle.link_loading.proofs.Rooted.{has-objects, roots-are}
 use Rattle.link_loading.proofs.roots.root_objects.Goals as goal
 

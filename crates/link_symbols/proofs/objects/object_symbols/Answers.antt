@@ -37,8 +37,8 @@ loop-file-preserved g c =
     let more = c.in-Some.ensures.steps in
     let here = left-at c.outlines-outlines.result.now c.loop-file.place (outline_of f.file) (outlines rest)
     (c.loop-file.invariant.2 ∙ ap (λ (l : List SequencedFile). outlines l) more) in
-    let read : slice_index_or c.outlines-outlines.result.now c.loop-file.place (record { symbols = 0; is_object = false; is_shared = false; is_optional = false }) ≡ outline_of f.file =
-    get_or_from_slice_get c.outlines-outlines.result.now c.loop-file.place (outline_of f.file) (record { symbols = 0; is_object = false; is_shared = false; is_optional = false }) here.0 in
+    let read : slice_index_or c.outlines-outlines.result.now c.loop-file.place (record { symbols = 0; is_object = false; is_shared = false; is_optional = false; has_groups = false }) ≡ outline_of f.file =
+    get_or_from_slice_get c.outlines-outlines.result.now c.loop-file.place (outline_of f.file) (record { symbols = 0; is_object = false; is_shared = false; is_optional = false; has_groups = false }) here.0 in
     let on = ap (λ (o : FileOutline). c.loop-file.first + o.symbols) read in (
       objects-more items new (objects_from 0 0 (without_ids all)) c.loop-file.first _ left rest f more c.in_ok-push_object.ensures on c.loop-file.invariant.0,
       objects-counted-on items new c.loop-file.first _ (length (symbols_in groups)) left rest f more c.in_ok-push_object.ensures on c.loop-file.invariant.1,

@@ -1,7 +1,7 @@
 use Rattle.std.proofs.Common.{◌≡◌, ◌∙◌, Bool, Err, List, None, Option, ap, arith, length, refl, subst, sym}
 use Rattle.std.specs.List.{filter_map}
+use Rattle.link_files.specs.HeldFiles.{HeldFiles}
 use Rattle.link_files.specs.Inputs.{objects_in}
-use Rattle.link_groups.specs.declared.group.Group.{Group}
 use Rattle.link_rules.specs.Comdat.{loaded_regular}
 use Rattle.link_rules.specs.Places.{first_of}
 use Rattle.link_work.specs.Requests.{requests_of}
@@ -31,7 +31,7 @@ use Rattle.link_resolve.proofs.resolver.Resolver.load_batch.Goals as goal
 pub returns-in_err-check_groups-clause-cause : goal.returns-in_err-check_groups-clause-cause
 returns-in_err-check_groups-clause-cause g c = λ demangle w at fine marks loaded.
     let is = opened c.self.view_is at in
-    let objects = is.stage.objects ∙ ap (λ (gs : List (Group g.row.P.Denot)). objects_in gs) (sym c.groups.ensures) in
+    let objects = is.stage.objects ∙ ap (λ (f : HeldFiles g.row.P.Denot). objects_in f.groups) (sym c.files.ensures) in
     let same : c.deref.result.now ≡ marks = c.deref.ensures.value ∙ one-loaded w _ marks (c.in_ok-found.ensures.loaded demangle w is) loaded in
     let earlier = is.loaded ∙ sym c.loaded.ensures in
     let e = c.in_err-check_groups.field-0.0 in
@@ -45,7 +45,7 @@ returns-in_err-check_groups-clause-cause g c = λ demangle w at fine marks loade
 pub returns-clause-cause : goal.returns-clause-cause
 returns-clause-cause g c = λ demangle w at fine marks loaded.
     let is = opened c.self.view_is at in
-    let objects = is.stage.objects ∙ ap (λ (gs : List (Group g.row.P.Denot)). objects_in gs) (sym c.groups.ensures) in
+    let objects = is.stage.objects ∙ ap (λ (f : HeldFiles g.row.P.Denot). objects_in f.groups) (sym c.files.ensures) in
     let same : c.deref.result.now ≡ marks = c.deref.ensures.value ∙ one-loaded w _ marks (c.in_ok-found.ensures.loaded demangle w is) loaded in
     let earlier = is.loaded ∙ sym c.loaded.ensures in
     neither (empty_refusal w) (group_refusal (selection_of w marks))
