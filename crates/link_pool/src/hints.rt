@@ -1,44 +1,109 @@
 //! Hints of items that may be ready, which threads take from one another. Nothing rests on what they say.
 
 use crate::readable::Readable;
+use arrayvec::ArrayVec;
 use crossbeam_deque::{Steal, Stealer, Worker};
 use std::alloc::{AllocError, Global};
 
-/// With how much room a deque begins.
-const FIRST_ROOM: usize = 64;
+/// With room for how many lists a deque begins.
+const FIRST_ROOM: usize = 16;
 
-/// An item that may be ready. Who takes it checks it.
-#[derive(Clone, Copy, Debug, PartialEq, Eq)]
-pub(crate) struct Hint {
-    pub(crate) file: usize,
-    pub(crate) item: usize,
-}
+/// How many items a list has at most.
+const LIST_ROOM: usize = 15;
 
-/// One worker's own hints, and the stealers of the others.
+/// Items that are handed on together, the first one last.
+type List = ArrayVec<usize, LIST_ROOM>;
+
+/// One worker's own hints, and the stealers of the others. A hint is the number of an item; whoever takes it checks it.
 #[derive(Drop)]
 pub(crate) struct Hints {
-    local: Worker<Hint>,
-    others: Vec<Stealer<Hint>>,
+    /// What it hands on, where others steal.
+    local: Worker<List>,
+    others: Vec<Stealer<List>>,
+    /// The list that it took last, as far as it didn't tell it.
+    taken: List,
+    /// What it was given and didn't hand on, the first one first.
+    given: List,
 }
 
 impl Hints {
-    /// A hint of its own, or else one that it steals.
+    /// A hint of its own, or else one of a list that it steals.
     /// Which one, and whether there is any, is left open: who takes a hint checks it, and the sweep reads what no hint told.
-    pub(crate) fn find(&mut self) -> Option<Hint> {
-        if let Some(hint) = self.local.pop() {
-            return Some(hint);
+    pub(crate) fn find(&mut self) -> Option<usize> {
+        if self.taken.is_empty() {
+            self.taken = self.find_list()?;
+        }
+        let item = self.taken.pop();
+        self.share();
+        item
+    }
+
+    // A list of its own, or else one that it steals.
+    fn find_list(&mut self) -> Option<List> {
+        if let Some(list) = self.local.pop() {
+            return Some(list);
+        }
+        if !self.given.is_empty() {
+            return Some(self.take_given());
         }
         for other in self.others.iter() {
-            if let Steal::Success(hint) = other.steal() {
-                return Some(hint);
+            if let Steal::Success(list) = other.steal() {
+                return Some(list);
             }
         }
         None
     }
 
-    // A push that is refused drops the hint.
-    fn push(&mut self, hint: Hint) {
-        let _ = self.local.push(hint);
+    // Where others find nothing here, what it was given is handed on, or else half of what it took. The hint that it follows next is its own: a
+    // chain, which has one hint at a time, stays with one worker.
+    fn share(&mut self) {
+        if !self.local.is_empty() {
+            return;
+        }
+        if self.given.is_empty() {
+            self.share_taken();
+        } else {
+            self.share_given();
+        }
+    }
+
+    // Hands on the later half of what it took.
+    fn share_taken(&mut self) {
+        let mut list = List::new();
+        for _ in 0..self.taken.len().div_ceil(2) {
+            if let Some(item) = self.taken.pop_at(0) {
+                let _ = list.try_push(item);
+            }
+        }
+        self.hand_on(list);
+    }
+
+    // Hands on what it was given.
+    fn share_given(&mut self) {
+        let list = self.take_given();
+        self.hand_on(list);
+    }
+
+    // What it was given.
+    fn take_given(&mut self) -> List {
+        let mut list = self.given.take();
+        list.as_mut_slice().reverse();
+        list
+    }
+
+    // A push that is refused drops the list.
+    fn hand_on(&mut self, list: List) {
+        if !list.is_empty() {
+            let _ = self.local.push(list);
+        }
+    }
+
+    // Keeps a hint, and hands on those that there were before if there is no room for it.
+    fn give(&mut self, item: usize) {
+        if self.given.is_full() {
+            self.share_given();
+        }
+        let _ = self.given.try_push(item);
     }
 
     /// Adds a hint for each item of these files, which were claimed.
@@ -47,10 +112,7 @@ impl Hints {
         for file in files {
             let (first, count) = plan.items_of(*file);
             for k in 0..count.min(plan.items()) {
-                self.push(Hint {
-                    file: *file,
-                    item: first.wrapping_add(k),
-                });
+                self.give(first.wrapping_add(k));
             }
         }
     }
@@ -58,7 +120,7 @@ impl Hints {
 
 /// A deque for each worker, with the stealers of all the others.
 fn hints_of(alloc: Global, count: usize) -> Result<Vec<Hints>, AllocError> {
-    let mut workers: Vec<Worker<Hint>> = Vec::new(alloc);
+    let mut workers: Vec<Worker<List>> = Vec::new(alloc);
     for _ in 0..count {
         workers.push(Worker::new_fifo(alloc, FIRST_ROOM)?)?;
     }
@@ -68,7 +130,12 @@ fn hints_of(alloc: Global, count: usize) -> Result<Vec<Hints>, AllocError> {
     }
     let mut all = Vec::new(alloc);
     for (local, others) in workers.into_iter().zip(others) {
-        all.push(Hints { local, others })?;
+        all.push(Hints {
+            local,
+            others,
+            taken: List::new(),
+            given: List::new(),
+        })?;
     }
     Ok(all)
 }
@@ -76,9 +143,9 @@ fn hints_of(alloc: Global, count: usize) -> Result<Vec<Hints>, AllocError> {
 /// The stealers of all workers but one.
 fn others_of(
     alloc: Global,
-    workers: &[Worker<Hint>],
+    workers: &[Worker<List>],
     own: usize,
-) -> Result<Vec<Stealer<Hint>>, AllocError> {
+) -> Result<Vec<Stealer<List>>, AllocError> {
     let mut others = Vec::new(alloc);
     for (i, worker) in workers.iter().enumerate() {
         if i != own {
@@ -106,7 +173,11 @@ impl Dealer {
     /// The hints of each worker.
     /// Which they are, and for how many workers, is left open: the sweep reads what no worker did.
     pub(crate) fn into_hints(self) -> Vec<Hints> {
-        self.all
+        let Dealer { mut all, .. } = self;
+        for hints in all.iter_mut() {
+            hints.share_given();
+        }
+        all
     }
 
     /// Deals out a hint for each item of the file, which was claimed.
@@ -114,20 +185,17 @@ impl Dealer {
     pub(crate) fn deal_items<P: Readable>(&mut self, plan: &P, file: usize) {
         let (first, count) = plan.items_of(file);
         for k in 0..count.min(plan.items()) {
-            self.deal(Hint {
-                file,
-                item: first.wrapping_add(k),
-            });
+            self.deal(first.wrapping_add(k));
         }
     }
 
     // Gives the hint to the next worker.
-    fn deal(&mut self, hint: Hint) {
+    fn deal(&mut self, item: usize) {
         if self.next >= self.all.len() {
             self.next = 0;
         }
         if self.next < self.all.len() {
-            self.all[self.next].push(hint);
+            self.all[self.next].give(item);
             self.next += 1;
         }
     }

@@ -17,6 +17,9 @@ use std::alloc::{AllocError, Global};
 use std::thread;
 use std::thread::Threads;
 
+/// How many threads the caller's own thread starts at most. Each of them starts others where there are more workers.
+const MOST_STARTS: usize = 7;
+
 /// How many threads so many workers start. One worker alone is the caller's own thread: it sweeps over all items, in their order, with no
 /// hint and no list of findings.
 /// The number is left open: for each number of threads the answer is the same.
@@ -49,8 +52,8 @@ fn jobs_of<P: Readable>(
     Ok(jobs)
 }
 
-/// Does each job in a thread of its own.
-fn run<R: Threads + Sync, P: Readable + Sync, G: Gate + Sync>(
+/// Does each job in a thread of its own. The list is halved at each step, and one half goes to a new thread.
+fn run_halved<R: Threads + Sync, P: Readable + Sync, G: Gate + Sync>(
     rt: &R,
     alloc: Global,
     words: &Words<P>,
@@ -69,6 +72,43 @@ fn run<R: Threads + Sync, P: Readable + Sync, G: Gate + Sync>(
             ensures { IfOk result (IsBack (P.work plan.entry.now) (P.found_in plan.entry.now) words.entry.now) }
         { work(alloc, words, plan, gate, job) },
     )
+}
+
+/// Does each job in a thread of its own. This thread starts so many of them one after another, each with an equal share of the jobs, and does
+/// what is left itself. A system puts a thread that is started by one that has only begun on that one's processor, and leaves it there for long.
+#[cycle(starts)]
+fn run<R: Threads + Sync, P: Readable + Sync, G: Gate + Sync>(
+    rt: &R,
+    alloc: Global,
+    words: &Words<P>,
+    plan: &P,
+    gate: &G,
+    starts: usize,
+    mut jobs: Vec<Job>,
+) -> Result<Vec<Result<Back<P::Found>, AllocError>>, AllocError>
+    requires { All (IsReady (P.work plan.now) words.now) jobs.items }
+    ensures { IfOk result (λ v. All (λ r. IfOk r (IsBack (P.work plan.now) (P.found_in plan.now) words.now)) v.items) }
+{
+    if starts == 0 || jobs.len() < 2 {
+        return run_halved(rt, alloc, words, plan, gate, jobs);
+    }
+    let share = jobs.len().div_ceil(starts.saturating_add(1));
+    let left = jobs.len().saturating_sub(share);
+    let theirs = jobs.split_off(left)?;
+    let next = starts - 1;
+    let there = move || -> Result<Vec<Result<Back<P::Found>, AllocError>>, AllocError>
+        requires { All (IsReady (P.work plan.now) words.now) theirs.items }
+        ensures { IfOk result (λ v. All (λ r. IfOk r (IsBack (P.work plan.entry.now) (P.found_in plan.entry.now) words.entry.now)) v.items) }
+    { run_halved(rt, alloc, words, plan, gate, theirs) };
+    let here = move || -> Result<Vec<Result<Back<P::Found>, AllocError>>, AllocError>
+        requires { All (IsReady (P.work plan.now) words.now) jobs.items }
+        ensures { IfOk result (λ v. All (λ r. IfOk r (IsBack (P.work plan.entry.now) (P.found_in plan.entry.now) words.entry.now)) v.items) }
+    { run(rt, alloc, words, plan, gate, next, jobs) };
+    let (backs, own) = thread::join(rt, there, here);
+    let mut all = backs?;
+    let mut rest = own?;
+    all.append(&mut rest)?;
+    Ok(all)
 }
 
 /// Writes down what was found in an item.
@@ -186,7 +226,7 @@ fn read_known<R: Threads + Sync, P: Readable + Sync, G: Gate + Sync>(
     ensures left { OnOk result (AreNotDue results.new seat.new.view (length (P.work plan.now).items)) }
 {
     let jobs = jobs_of(alloc, words, seat, plan, hints)?;
-    let backs = run(rt, alloc, words, plan, gate, jobs)?;
+    let backs = run(rt, alloc, words, plan, gate, MOST_STARTS, jobs)?;
     absorb_all(words, seat, plan, backs, results)?;
     sweep_all(alloc, words, seat, plan, gate, results)
 }

@@ -28,7 +28,7 @@ fn read_request<P: Readable>(
     seat: &mut WorkSeat,
     plan: &P,
     item: usize,
-    found: &P::Found,
+    read: &P::Read,
     index: usize,
     claimed: &mut Vec<usize>,
     count: &mut u64,
@@ -37,7 +37,7 @@ fn read_request<P: Readable>(
     requires work { seat.old.view.work ≡ P.work plan.now }
     requires item { item < length (P.work plan.now).items }
     requires begun { Contains seat.old.view.known_items item }
-    requires found { P.found_in plan.now item found.now }
+    requires found { P.read_in plan.now item read.now }
     requires index { (it : Item) → HasItem (P.work plan.now) item it → index < length it.requests }
     requires room { count.old + 1 < 2 ^ 64 }
     ensures table { seat.new.table ≡ seat.old.table }
@@ -47,7 +47,7 @@ fn read_request<P: Readable>(
     ensures claimed { OnOk result ((v : View) → AreClaimed claimed.old.items v seat.old.view → AreClaimed claimed.new.items v seat.new.view) }
     ensures count { OnOk result (count.new ≡ count.old + 1) }
 {
-    let Some(file) = plan.request_at(item, found, index) else {
+    let Some(file) = plan.request_at(item, read, index) else {
         return Ok(());
     };
     if seat.request_counted(words, file, count) {
@@ -62,21 +62,21 @@ fn read_mark<P: Readable>(
     seat: &mut WorkSeat,
     plan: &P,
     item: usize,
-    found: &P::Found,
+    read: &P::Read,
     index: usize,
 )
     requires table { seat.old.table ≡ words.now }
     requires work { seat.old.view.work ≡ P.work plan.now }
     requires item { item < length (P.work plan.now).items }
     requires begun { Contains seat.old.view.known_items item }
-    requires found { P.found_in plan.now item found.now }
+    requires found { P.read_in plan.now item read.now }
     ensures table { seat.new.table ≡ seat.old.table }
     ensures later { IsLater seat.old.view seat.new.view }
     ensures begins { seat.new.view.begins ≡ seat.old.view.begins }
     ensures claims { seat.new.view.claims ≡ seat.old.view.claims }
     ensures read { (it : Item) → HasItem (P.work plan.now) item it → (m : Mark) → slice_get it.marks index ≡ Some m → Contains seat.new.view.marks m }
 {
-    let Some(mark) = plan.mark_at(item, found, index) else {
+    let Some(mark) = plan.mark_at(item, read, index) else {
         return;
     };
     AtomicPerSymbolFlags::new(words)
@@ -90,14 +90,14 @@ fn read_requests<P: Readable>(
     seat: &mut WorkSeat,
     plan: &P,
     item: usize,
-    found: &P::Found,
+    read: &P::Read,
     claimed: &mut Vec<usize>,
 ) -> Result<u64, AllocError>
     requires table { seat.old.table ≡ words.now }
     requires work { seat.old.view.work ≡ P.work plan.now }
     requires item { item < length (P.work plan.now).items }
     requires begun { Contains seat.old.view.known_items item }
-    requires found { P.found_in plan.now item found.now }
+    requires found { P.read_in plan.now item read.now }
     ensures table { seat.new.table ≡ seat.old.table }
     ensures later { IsLater seat.old.view seat.new.view }
     ensures begins { seat.new.view.begins ≡ seat.old.view.begins }
@@ -106,8 +106,8 @@ fn read_requests<P: Readable>(
     ensures requests { IfOk result (λ n. (it : Item) → HasItem (P.work plan.now) item it → n ≡ length it.requests) }
 {
     let mut count = 0u64;
-    for index in 0..plan.request_count(item, found) {
-        read_request(words, seat, plan, item, found, index, claimed, &mut count)?;
+    for index in 0..plan.request_count(item, read) {
+        read_request(words, seat, plan, item, read, index, claimed, &mut count)?;
     }
     Ok(count)
 }
@@ -118,26 +118,26 @@ fn read_marks<P: Readable>(
     seat: &mut WorkSeat,
     plan: &P,
     item: usize,
-    found: &P::Found,
+    read: &P::Read,
 )
     requires table { seat.old.table ≡ words.now }
     requires work { seat.old.view.work ≡ P.work plan.now }
     requires item { item < length (P.work plan.now).items }
     requires begun { Contains seat.old.view.known_items item }
-    requires found { P.found_in plan.now item found.now }
+    requires found { P.read_in plan.now item read.now }
     ensures table { seat.new.table ≡ seat.old.table }
     ensures later { IsLater seat.old.view seat.new.view }
     ensures begins { seat.new.view.begins ≡ seat.old.view.begins }
     ensures claims { seat.new.view.claims ≡ seat.old.view.claims }
     ensures read { (it : Item) → HasItem (P.work plan.now) item it → (m : Mark) → Contains it.marks m → Contains seat.new.view.marks m }
 {
-    for index in 0..plan.mark_count(item, found) {
-        read_mark(words, seat, plan, item, found, index);
+    for index in 0..plan.mark_count(item, read) {
+        read_mark(words, seat, plan, item, read, index);
     }
 }
 
-/// Reads an item that is known to be begun: what is found in it, then its requests, each made once and counted, then its
-/// marks. It refuses only for want of memory.
+/// Reads an item that is known to be begun: then its requests are made, each once and counted, then its marks, and what is found in it is kept.
+/// It refuses only for want of memory.
 pub fn read_item<P: Readable>(
     alloc: Global,
     plan: &P,
@@ -157,13 +157,13 @@ pub fn read_item<P: Readable>(
     ensures claimed { IfOk result (λ r. AreClaimed r.claimed.items seat.old.view seat.new.view) }
     ensures requests { IfOk result (λ r. (it : Item) → HasItem (P.work plan.now) item it → r.requests ≡ length it.requests) }
 {
-    let found = plan.read(alloc, item)?;
+    let read = plan.read(alloc, item)?;
     let mut claimed = Vec::new(alloc);
-    let requests = read_requests(words, seat, plan, item, &found, &mut claimed)?;
-    read_marks(words, seat, plan, item, &found);
+    let requests = read_requests(words, seat, plan, item, &read, &mut claimed)?;
+    read_marks(words, seat, plan, item, &read);
     Ok(ItemRead {
         claimed,
-        found,
+        found: plan.found(item, read),
         requests,
     })
 }

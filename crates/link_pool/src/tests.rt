@@ -110,7 +110,11 @@ impl Plan for Scattered {
 }
 
 impl Readable for Scattered {
+    type Read = usize;
+
     type Found = usize;
+
+    ghost read_in = { λ p item x. x ≡ item * 3 + 1 };
 
     ghost found_in = { λ p item x. x ≡ item * 3 + 1 };
 
@@ -141,12 +145,12 @@ impl Readable for Scattered {
         Ok(item * 3 + 1)
     }
 
-    fn request_count(&self, _item: usize, _found: &usize) -> usize {
+    fn request_count(&self, _item: usize, _read: &usize) -> usize {
         2
     }
 
-    fn request_at(&self, _item: usize, found: &usize, index: usize) -> Option<usize> {
-        let item = *found / 3;
+    fn request_at(&self, _item: usize, read: &usize, index: usize) -> Option<usize> {
+        let item = *read / 3;
         if item >= self.files {
             return None;
         }
@@ -157,15 +161,19 @@ impl Readable for Scattered {
         }
     }
 
-    fn mark_count(&self, _item: usize, _found: &usize) -> usize {
+    fn mark_count(&self, _item: usize, _read: &usize) -> usize {
         1
     }
 
-    fn mark_at(&self, _item: usize, found: &usize, index: usize) -> Option<(SymbolId, ValueFlags)> {
+    fn mark_at(&self, _item: usize, read: &usize, index: usize) -> Option<(SymbolId, ValueFlags)> {
         match index {
-            0 => Some((SymbolId::from_usize(*found / 3 % 8), ValueFlags::DYNAMIC)),
+            0 => Some((SymbolId::from_usize(*read / 3 % 8), ValueFlags::DYNAMIC)),
             _ => None,
         }
+    }
+
+    fn found(&self, _item: usize, read: usize) -> usize {
+        read
     }
 
     fn items_of(&self, file: usize) -> (usize, usize) {

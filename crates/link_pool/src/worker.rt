@@ -5,13 +5,15 @@ ghost use Rattle.link_claim.specs.Later.{IsLater};
 ghost use Rattle.link_pool.specs.Found.{IsFound, IsBegun};
 ghost use Rattle.link_pool.specs.Jobs.{AllFound, AreKept, IsReady, IsBack};
 
-use crate::hints::{Hint, Hints};
+use crate::hints::Hints;
 use crate::readable::Readable;
 use crate::reading::{ItemRead, read_item};
+use crossbeam_utils::Backoff;
 use link_claim::{Gate, Words, WorkSeat};
 use std::alloc::{AllocError, Global};
 
-/// How many turns in a row without a hint end a worker.
+/// How many turns in a row without a hint end a worker. Behind each it pauses, longer and longer, and then lets other threads run: so one that
+/// begins before there are hints for all is still there once another has read its first items.
 const IDLE_TURNS: u32 = 64;
 
 /// What one thread begins with.
@@ -37,31 +39,27 @@ pub(crate) struct Back<T> {
     pub(crate) findings: Vec<Finding<T>>,
 }
 
-/// Begins the item of a hint, if there is such an item and its file is claimed. Whether this call began it.
-fn begin_hinted<P: Readable>(words: &Words<P>, seat: &mut WorkSeat, plan: &P, hint: Hint) -> bool
+/// Begins an item that a hint names, if there is such an item and its file is claimed. Whether this call began it.
+fn begin_hinted<P: Readable>(words: &Words<P>, seat: &mut WorkSeat, plan: &P, item: usize) -> bool
     requires table { seat.old.table ≡ words.now }
     requires work { seat.old.view.work ≡ P.work plan.now }
     ensures table { seat.new.table ≡ seat.old.table }
     ensures later { IsLater seat.old.view seat.new.view }
-    ensures begun { OnTrue result (IsBegun (P.work plan.now) seat.new.view hint.item) }
+    ensures begun { OnTrue result (IsBegun (P.work plan.now) seat.new.view item) }
     ensures begins { MatchBool result
-        (seat.new.view.begins ≡ hint.item ∷ seat.old.view.begins)
+        (seat.new.view.begins ≡ item ∷ seat.old.view.begins)
         (seat.new.view.begins ≡ seat.old.view.begins) }
 {
-    let Hint { file, item } = hint;
     if item >= plan.items() {
         return false;
     }
-    if plan.file_of(item) != file {
-        return false;
-    }
-    if !seat.check(words, file) {
+    if !seat.check(words, plan.file_of(item)) {
         return false;
     }
     seat.begin(words, item)
 }
 
-/// Reads the item of a hint, if its file is claimed and nobody began it.
+/// Reads an item that a hint names, if its file is claimed and nobody began it.
 fn follow<P: Readable, G: Gate>(
     alloc: Global,
     words: &Words<P>,
@@ -69,7 +67,7 @@ fn follow<P: Readable, G: Gate>(
     plan: &P,
     gate: &G,
     hints: &mut Hints,
-    hint: Hint,
+    item: usize,
 ) -> Result<Option<Finding<P::Found>>, AllocError>
     requires table { seat.old.table ≡ words.now }
     requires work { seat.old.view.work ≡ P.work plan.now }
@@ -80,10 +78,9 @@ fn follow<P: Readable, G: Gate>(
         (seat.new.view.begins ≡ seat.old.view.begins)
         (λ f. seat.new.view.begins ≡ f.item ∷ seat.old.view.begins)) }
 {
-    if !begin_hinted(words, seat, plan, hint) {
+    if !begin_hinted(words, seat, plan, item) {
         return Ok(None);
     }
-    let item = hint.item;
     gate.before(item);
     let read = read_item(alloc, plan, words, seat, item);
     gate.after(item);
@@ -92,7 +89,7 @@ fn follow<P: Readable, G: Gate>(
     Ok(Some(Finding { item, found }))
 }
 
-/// Follows a hint, and writes down what it found.
+/// Follows a hint, and writes down what was found.
 fn turn<P: Readable, G: Gate>(
     alloc: Global,
     words: &Words<P>,
@@ -101,7 +98,7 @@ fn turn<P: Readable, G: Gate>(
     gate: &G,
     hints: &mut Hints,
     findings: &mut Vec<Finding<P::Found>>,
-    hint: Hint,
+    item: usize,
 ) -> Result<(), AllocError>
     requires table { seat.old.table ≡ words.now }
     requires work { seat.old.view.work ≡ P.work plan.now }
@@ -112,7 +109,7 @@ fn turn<P: Readable, G: Gate>(
     ensures found { OnOk result (AllFound (P.found_in plan.now) seat.new.view findings.new.items) }
     ensures kept { OnOk result (AreKept seat.new.view findings.new.items) }
 {
-    if let Some(finding) = follow(alloc, words, seat, plan, gate, hints, hint)? {
+    if let Some(finding) = follow(alloc, words, seat, plan, gate, hints, item)? {
         findings.push(finding)?;
     }
     Ok(())
@@ -138,12 +135,15 @@ pub(crate) fn work<P: Readable, G: Gate>(
     let items = plan.items();
     let mut idle = 0u32;
     let mut taken = 0usize;
+    let pause = Backoff::new();
     while idle < IDLE_TURNS && taken < items {
-        let Some(hint) = hints.find() else {
+        let Some(item) = hints.find() else {
             idle += 1;
+            pause.snooze();
             continue;
         };
         idle = 0;
+        pause.reset();
         taken += 1;
         turn(
             alloc,
@@ -153,7 +153,7 @@ pub(crate) fn work<P: Readable, G: Gate>(
             gate,
             &mut hints,
             &mut findings,
-            hint,
+            item,
         )?;
     }
     Ok(Back { seat, findings })

@@ -53,7 +53,7 @@ module _ (known : Known) (objects : List SymbolsLeft) (items : List WorkItem) (r
           → r.target < length opening
       by_claim it there true has =
           let same : has.0 ≡ x = some_same has.0 x (some_same (Some has.0) (Some x) (sym has.1 ∙ at)) in
-          let marks = told-marks known objects items i it has.0 has.2 there in
+          let marks = told-marks known objects items i it has.0.references.items (λ z is. (has.2 z is).marks) there in
           sound.marks i (found_mark r) (
             it,
             there,

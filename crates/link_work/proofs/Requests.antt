@@ -25,7 +25,7 @@ module _ (known : Known) (objects : List SymbolsLeft) (marks : List Bool) where
   counted-one : (it : WorkItem) (o : Option FoundItem) (b : Bool)
       → MatchBool b ((x : FoundItem) × (Some o ≡ Some (Some x)) × IsFoundIn known (symbols_of_item objects it) x) (Some o ≡ Some None)
       → request_count o ≡ cond b (length (item_by known objects it).requests) 0
-  counted-one it o true has = ap request_count (some_same o (Some has.0) has.1) ∙ ap (λ (l : List ℕ). length l) has.2.requests
+  counted-one it o true has = ap request_count (some_same o (Some has.0) has.1) ∙ has.2.requests
   counted-one it o false none = ap request_count (some_same o None none)
 
   -- so it is of all items

@@ -44,7 +44,7 @@ AreFoundBelow n found = (r : FoundReference) → IsReferenceIn found r → r.tar
 
 -- how many requests were found in an item
 abbrev pub request_count : Option FoundItem → ℕ
-request_count found = option_map_or (λ x. length x.requests.items) found 0
+request_count found = option_map_or (λ x. x.requests) found 0
 
 -- in all of these items
 abbrev pub requests_found : List (Option FoundItem) → ℕ

@@ -1,5 +1,5 @@
 -- What the symbols of items stand for and ask for, told by where symbols stand, by what earlier batches settled, and by what names mean.
-use Rattle.std.specs.Prelude.{◌≡◌, ℕ, List, map, Bool, false, Option, None, Some, if◌then◌else◌, is_some, option_map, option_to_list, slice_get}
+use Rattle.std.specs.Prelude.{◌≡◌, ℕ, List, map, Bool, false, Option, None, Some, if◌then◌else◌, is_some, option_map, option_to_list, length, slice_get}
 use Rattle.std.specs.List.{flat_map}
 use Rattle.std.specs.Option.{option_map_or}
 use Rattle.link_closure.specs.declared.workload.Mark.{Mark}
@@ -15,6 +15,7 @@ use Rattle.link_loading.specs.Requests.{request_by}
 use Rattle.link_db.specs.Database.{Database, name_table_of}
 use Rattle.link_work.specs.declared.found.FoundItem.{FoundItem}
 use Rattle.link_work.specs.declared.found.FoundReference.{FoundReference}
+use Rattle.link_work.specs.declared.found.ReadItem.{ReadItem}
 
 -- where each symbol stands, what the references of earlier batches stand for, and what any other reference stands for
 pub record Known : Type 0 where
@@ -70,8 +71,14 @@ found_target r = (r.reference, r.target)
 abbrev pub found_mark : FoundReference → Mark
 found_mark r = record { symbol = r.target; bits = r.flags.0 }
 
--- what is found in these symbols: what they request, what they stand for, and their marks
+-- what is read in these symbols: what they request, what they stand for, and their marks
+pub record IsReadIn (known : Known) (symbols : List (ℕ × Symbol)) (read : ReadItem) : Type 0 where
+  pub requests : read.requests.items ≡ flat_map (requests_by known) symbols
+  pub targets : map found_target read.references.items ≡ flat_map (targets_by known) symbols
+  pub marks : map found_mark read.references.items ≡ flat_map (marks_by known) symbols
+
+-- what is found in these symbols: how much they request, what they stand for, and their marks
 pub record IsFoundIn (known : Known) (symbols : List (ℕ × Symbol)) (found : FoundItem) : Type 0 where
-  pub requests : found.requests.items ≡ flat_map (requests_by known) symbols
+  pub requests : found.requests ≡ length (flat_map (requests_by known) symbols)
   pub targets : map found_target found.references.items ≡ flat_map (targets_by known) symbols
   pub marks : map found_mark found.references.items ≡ flat_map (marks_by known) symbols

@@ -8,8 +8,9 @@ use Rattle.link_pool.specs.Marks.{mark_of_pair}
 use Rattle.link_db.specs.Seen.{seen}
 use Rattle.link_work.specs.declared.plan.LinkPlan.{LinkPlan}
 use Rattle.link_work.specs.declared.found.FoundItem.{FoundItem}
+use Rattle.link_work.specs.declared.found.ReadItem.{ReadItem}
 use Rattle.link_work.specs.declared.items.WorkItem.{WorkItem}
-use Rattle.link_work.specs.Asked.{IsFoundIn, Known, known_by}
+use Rattle.link_work.specs.Asked.{IsFoundIn, IsReadIn, Known, known_by}
 use Rattle.link_work.specs.Items.{symbols_of_item}
 use Rattle.link_work.specs.Planned.{opening_of, planned}
 
@@ -21,6 +22,10 @@ known_of {P} {G} p = known_by (platform_of G).weak_overrides_common (seen p.db.n
 abbrev pub work_of : {P : Type 0} {G : Ghosts P} → LinkPlan P G → Workload
 work_of p = planned (known_of p) p.objects.items p.items.items p.roots.items (map mark_of_pair p.root_marks.items)
     (opening_of p.symbols (numbers_of (words_of p.flags.now)))
+
+-- what is read in an item of it
+abbrev pub read_in : {P : Type 0} {G : Ghosts P} → LinkPlan P G → ℕ → ReadItem → Type 0
+read_in p item read = (it : WorkItem) → slice_get p.items.items item ≡ Some it → IsReadIn (known_of p) (symbols_of_item p.objects.items it) read
 
 -- what is found in an item of it
 abbrev pub found_in : {P : Type 0} {G : Ghosts P} → LinkPlan P G → ℕ → FoundItem → Type 0

@@ -151,7 +151,7 @@ fn request_count(found: &Option<FoundItem>) -> u64
     ensures { result ≡ request_count found.now }
 {
     match found {
-        Some(item) => item.requests.len() as u64,
+        Some(item) => item.requests as u64,
         None => 0,
     }
 }

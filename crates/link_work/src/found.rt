@@ -1,4 +1,4 @@
-//! What is found in an item: which objects it requests, and what its references stand for.
+//! What is read in an item: which objects it requests, and what its references stand for.
 
 ghost use Rattle.std.specs.Prelude.{◌≡◌, ℕ, ◌<◌, ◌++◌, ◌∷◌, [], List, IfOk, IfSome, None, OnOk, Option, Some, length, map, option_to_list, slice_get};
 ghost use Rattle.link_buckets.specs.Keys.{hash_of};
@@ -7,7 +7,7 @@ ghost use Rattle.link_input.specs.Symbols.{Symbol};
 ghost use Rattle.link_symbols.specs.Lookups.{target_at};
 ghost use Rattle.link_symbols.specs.Walk.{with_ids};
 ghost use Rattle.link_db.specs.Seen.{seen};
-ghost use Rattle.link_work.specs.Asked.{ArePart, IsFoundIn, found_mark, found_target, is_shared_by, known_by, mark_by, marks_by, meant, new_target, requests_by, targets_by};
+ghost use Rattle.link_work.specs.Asked.{ArePart, IsReadIn, found_mark, found_target, is_shared_by, known_by, mark_by, marks_by, meant, new_target, requests_by, targets_by};
 
 use link_db::SymbolDb;
 use link_flags::ValueFlags;
@@ -29,11 +29,20 @@ pub struct FoundReference {
     pub flags: ValueFlags,
 }
 
-/// What is found in an item.
+/// What is read in an item.
 #[derive(Drop)]
-pub struct FoundItem {
+pub struct ReadItem {
     /// The objects that its references request, by their places among all objects, in the order of the references.
     pub requests: Vec<usize>,
+    /// Its references that stand for something and didn't after an earlier batch, in the order of their ids.
+    pub references: Vec<FoundReference>,
+}
+
+/// What is found in an item, and kept once its requests were made.
+#[derive(Drop)]
+pub struct FoundItem {
+    /// How many objects its references request, each time that one is requested.
+    pub requests: usize,
     /// Its references that stand for something and didn't after an earlier batch, in the order of their ids.
     pub references: Vec<FoundReference>,
 }
@@ -113,15 +122,30 @@ fn push_reference(
     Ok(())
 }
 
-impl FoundItem {
+impl ReadItem {
     /// Nothing.
     pub(crate) fn none(alloc: Global) -> Self
         ensures requests { result.requests.items ≡ [] }
         ensures references { result.references.items ≡ [] }
     {
-        FoundItem {
+        ReadItem {
             requests: Vec::new(alloc),
             references: Vec::new(alloc),
+        }
+    }
+
+    /// What is kept of it: its references, and of its requests how many there are. Takes no memory.
+    pub(crate) fn into_found(self) -> FoundItem
+        ensures requests { result.requests ≡ length self.requests.items }
+        ensures references { result.references ≡ self.references }
+    {
+        let ReadItem {
+            requests,
+            references,
+        } = self;
+        FoundItem {
+            requests: requests.len(),
+            references,
         }
     }
 }
@@ -157,22 +181,22 @@ fn read_at<P: Platform>(
     Ok(())
 }
 
-/// What is found in symbols of an object, which are symbols of the database. The only refusal is want of memory.
+/// What is read in symbols of an object, which are symbols of the database. The only refusal is want of memory.
 pub(crate) fn read_symbols<P: Platform>(
     alloc: Global,
     db: &SymbolDb<P>,
     settled: &[Option<SymbolId>],
     symbols: &PartSymbols<'_, P>,
-) -> Result<FoundItem, AllocError>
+) -> Result<ReadItem, AllocError>
     requires own { ArePart (symbols_in (seen db.now).mapping.files.groups) (with_ids symbols.now) }
-    ensures found { IfOk result (IsFoundIn (known_by P.WEAK_SYMBOLS_OVERRIDE_COMMON (seen db.now) settled.now) (with_ids symbols.now)) }
+    ensures read { IfOk result (IsReadIn (known_by P.WEAK_SYMBOLS_OVERRIDE_COMMON (seen db.now) settled.now) (with_ids symbols.now)) }
 {
     let mut requests = Vec::new(alloc);
     let mut references = Vec::new(alloc);
     for at in 0..symbols.len() {
         read_at(db, settled, symbols, at, &mut requests, &mut references)?;
     }
-    Ok(FoundItem {
+    Ok(ReadItem {
         requests,
         references,
     })

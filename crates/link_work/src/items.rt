@@ -51,17 +51,19 @@ pub fn work_items<P: Platform>(
     Ok(items)
 }
 
-/// The number of the first item of each object. Only hints rest on it: which numbers they are is left open.
+/// The number of the first item of each object, and behind them how many items there are. Only hints rest on it: which numbers they are is
+/// left open.
 pub(crate) fn first_items<P: Platform>(
     alloc: Global,
     objects: &[ObjectSymbols<P>],
 ) -> Result<Vec<usize>, AllocError> {
-    let mut firsts = Vec::with_capacity(alloc, objects.len())?;
+    let mut firsts = Vec::with_capacity(alloc, objects.len().saturating_add(1))?;
     let mut first = 0usize;
     for object in objects {
         firsts.push(first)?;
         first = first.saturating_add(item_count(object.num_symbols()));
     }
+    firsts.push(first)?;
     Ok(firsts)
 }
 

@@ -15,7 +15,7 @@ pub use answer::{
     claimed_objects, closed_words_are_those_of_a_link, read_targets,
     read_targets_are_those_of_a_link, write_flags, write_targets,
 };
-pub use found::{FoundItem, FoundReference};
+pub use found::{FoundItem, FoundReference, ReadItem};
 pub use items::{ITEM_SIZE, WorkItem, work_items};
 pub use loading::{LoadedObjects, load_objects};
 pub use plan::LinkPlan;

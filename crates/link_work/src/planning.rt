@@ -14,8 +14,8 @@ ghost use Rattle.link_work.specs.Planned.{opening_of};
 ghost use Rattle.link_work.specs.Answer.{AreObjectsOf, IsKnownAt};
 ghost use Rattle.link_work.specs.Work.{known_of, work_of};
 
-use crate::found::{FoundItem, read_symbols};
-use crate::items::{first_items, item_count, item_symbols, work_items};
+use crate::found::{FoundItem, ReadItem, read_symbols};
+use crate::items::{first_items, item_symbols, work_items};
 use crate::opening::{opening_bits_are_small, opening_flags};
 use crate::plan::LinkPlan;
 use crate::roots::{marked_places, marks_of_names};
@@ -109,9 +109,13 @@ impl<'a, P: Platform> Plan for LinkPlan<'a, P> {
 }
 
 impl<'a, P: Platform> Readable for LinkPlan<'a, P> {
-    ghost use Rattle.link_work.specs.Work.{found_in};
+    ghost use Rattle.link_work.specs.Work.{found_in, read_in};
+
+    type Read = ReadItem;
 
     type Found = FoundItem;
+
+    ghost read_in = { read_in };
 
     ghost found_in = { found_in };
 
@@ -132,39 +136,43 @@ impl<'a, P: Platform> Readable for LinkPlan<'a, P> {
     }
 
     fn items_of(&self, file: usize) -> (usize, usize) {
-        match (self.firsts.get(file), self.objects.get(file)) {
-            (Some(first), Some(object)) => (*first, item_count(object.num_symbols())),
+        match self.firsts.get(file..) {
+            Some([first, next, ..]) => (*first, next.saturating_sub(*first)),
             _ => (0, 0),
         }
     }
 
-    fn read(&self, alloc: Global, item: usize) -> Result<FoundItem, AllocError> {
+    fn read(&self, alloc: Global, item: usize) -> Result<ReadItem, AllocError> {
         match item_symbols(&self.objects, self.items[item]) {
             Some(symbols) => read_symbols(alloc, self.db, self.settled, &symbols),
-            None => Ok(FoundItem::none(alloc)),
+            None => Ok(ReadItem::none(alloc)),
         }
     }
 
-    fn request_count(&self, _item: usize, found: &FoundItem) -> usize {
-        found.requests.len()
+    fn request_count(&self, _item: usize, read: &ReadItem) -> usize {
+        read.requests.len()
     }
 
-    fn request_at(&self, _item: usize, found: &FoundItem, index: usize) -> Option<usize> {
-        let object = found.requests.get(index)?;
+    fn request_at(&self, _item: usize, read: &ReadItem, index: usize) -> Option<usize> {
+        let object = read.requests.get(index)?;
         Some(*object)
     }
 
-    fn mark_count(&self, _item: usize, found: &FoundItem) -> usize {
-        found.references.len()
+    fn mark_count(&self, _item: usize, read: &ReadItem) -> usize {
+        read.references.len()
     }
 
     fn mark_at(
         &self,
         _item: usize,
-        found: &FoundItem,
+        read: &ReadItem,
         index: usize,
     ) -> Option<(SymbolId, ValueFlags)> {
-        let reference = found.references.get(index)?;
+        let reference = read.references.get(index)?;
         Some((reference.target, reference.flags))
+    }
+
+    fn found(&self, _item: usize, read: ReadItem) -> FoundItem {
+        read.into_found()
     }
 }

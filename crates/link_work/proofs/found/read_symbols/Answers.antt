@@ -36,7 +36,7 @@ returns g c =
     let targets = map found_target c.loop-at.references.items in
     let marks = map found_mark c.loop-at.references.items in
     record {
-      found = record {
+      read = record {
         requests = sym (append-nil requests) ∙ (ap (λ (l : List (ℕ × Symbol)). requests ++ flat_map (requests_by known) l) none ∙ c.loop-at.invariant.0);
         targets = sym (append-nil targets) ∙ (ap (λ (l : List (ℕ × Symbol)). targets ++ flat_map (targets_by known) l) none ∙ c.loop-at.invariant.1);
         marks = sym (append-nil marks) ∙ (ap (λ (l : List (ℕ × Symbol)). marks ++ flat_map (marks_by known) l) none ∙ c.loop-at.invariant.2);

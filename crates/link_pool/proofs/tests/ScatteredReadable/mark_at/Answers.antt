@@ -8,7 +8,7 @@ use Rattle.link_pool.proofs.tests.ScatteredReadable.mark_at.Goals as goal
 pub returns-in-0 : goal.returns-in-0
 returns-in-0 c it has =
     ap (λ (s : ℕ). Some (record { symbol = s; bits = 2 })) c.from_usize.ensures
-    ∙ ap (λ (i : ℕ). Some (record { symbol = i % 8; bits = 2 })) (third_of_found c.args.found.now c.args._item c.requires)
+    ∙ ap (λ (i : ℕ). Some (record { symbol = i % 8; bits = 2 })) (third_of_found c.args.read.now c.args._item c.requires)
     ∙ ap (λ (t : Item). slice_get t.marks 0) (item_is c.args.self.now.chain c.args.self.now.files c.args.self.now.roots c.args._item it has).1
     ∙ ap (λ k. slice_get it.marks k) (sym c.in-0.is)
 

@@ -8,19 +8,19 @@ use Rattle.link_pool.proofs.tests.ScatteredReadable.request_at.Goals as goal
 pub returns-then-item-self : goal.returns-then-item-self
 returns-then-item-self c it has =
     let on = c.if-item-self.true in
-    let third = third_of_found c.args.found.now c.args._item c.requires in
+    let third = third_of_found c.args.read.now c.args._item c.requires in
     let lt = (item_is c.args.self.now.chain c.args.self.now.files c.args.self.now.roots c.args._item it has).0 in
     absurd (grind (arith, nat_tests))
 
 pub returns-in-0 : goal.returns-in-0
 returns-in-0 c it has =
-    ap Some (c.first_request.ensures.is ∙ ap (first_request c.args.self.now.chain c.args.self.now.files) (third_of_found c.args.found.now c.args._item c.requires))
+    ap Some (c.first_request.ensures.is ∙ ap (first_request c.args.self.now.chain c.args.self.now.files) (third_of_found c.args.read.now c.args._item c.requires))
     ∙ ap (λ (t : Item). slice_get t.requests 0) (item_is c.args.self.now.chain c.args.self.now.files c.args.self.now.roots c.args._item it has).1
     ∙ ap (λ k. slice_get it.requests k) (sym c.in-0.is)
 
 pub returns-in-1 : goal.returns-in-1
 returns-in-1 c it has =
-    ap Some (c.second_request.ensures.is ∙ ap (second_request c.args.self.now.chain c.args.self.now.files) (third_of_found c.args.found.now c.args._item c.requires))
+    ap Some (c.second_request.ensures.is ∙ ap (second_request c.args.self.now.chain c.args.self.now.files) (third_of_found c.args.read.now c.args._item c.requires))
     ∙ ap (λ (t : Item). slice_get t.requests 1) (item_is c.args.self.now.chain c.args.self.now.files c.args.self.now.roots c.args._item it has).1
     ∙ ap (λ k. slice_get it.requests k) (sym c.in-1.is)
 

@@ -13,23 +13,23 @@ use Rattle.link_work.proofs.planning.LinkPlanReadable.mark_at.Goals as goal
 pub returns-in_err-reference : goal.returns-in_err-reference
 returns-in_err-reference g c = λ it at.
     let plan = c.args.self.now in
-    let found = c.args.found.now in
+    let read = c.args.read.now in
     let slice = c.deref.result.now in
-    let none : slice_get found.references.items c.args.index ≡ None =
+    let none : slice_get read.references.items c.args.index ≡ None =
     ap (λ (l : List FoundReference). slice_get l c.args.index) (sym c.deref.ensures.value) ∙ slice_get_past slice c.args.index c.in_err-reference.ensures.lookup.3 in
     ap (option_map mark_of_pair) c.from_residual.ensures
-    ∙ (sym (slice_get-map found_mark found.references.items c.args.index ∙ ap (option_map found_mark) none)
-    ∙ ap (λ (l : List Mark). slice_get l c.args.index) (told-marks (known_of plan) plan.objects.items plan.items.items c.args._item it found c.requires at))
+    ∙ (sym (slice_get-map found_mark read.references.items c.args.index ∙ ap (option_map found_mark) none)
+    ∙ ap (λ (l : List Mark). slice_get l c.args.index) (told-marks (known_of plan) plan.objects.items plan.items.items c.args._item it read.references.items (λ z there. (c.requires z there).marks) at))
 
 -- the mark of the reference that stands there
 pub returns : goal.returns
 returns g c = λ it at.
     let plan = c.args.self.now in
-    let found = c.args.found.now in
+    let read = c.args.read.now in
     let slice = c.deref.result.now in
     let r = c.in_ok-reference.reference.now in
     let look = c.in_ok-reference.ensures.lookup in
-    let there : slice_get found.references.items c.args.index ≡ Some r =
+    let there : slice_get read.references.items c.args.index ≡ Some r =
     ap (λ (l : List FoundReference). slice_get l c.args.index) (sym c.deref.ensures.value) ∙ slice_get_read slice (length slice) c.args.index r refl look.3.0 look.1 in
-    sym (slice_get-map found_mark found.references.items c.args.index ∙ ap (option_map found_mark) there)
-    ∙ ap (λ (l : List Mark). slice_get l c.args.index) (told-marks (known_of plan) plan.objects.items plan.items.items c.args._item it found c.requires at)
+    sym (slice_get-map found_mark read.references.items c.args.index ∙ ap (option_map found_mark) there)
+    ∙ ap (λ (l : List Mark). slice_get l c.args.index) (told-marks (known_of plan) plan.objects.items plan.items.items c.args._item it read.references.items (λ z there. (c.requires z there).marks) at)

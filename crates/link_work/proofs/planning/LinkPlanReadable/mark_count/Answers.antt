@@ -6,10 +6,10 @@ use Rattle.link_work.specs.Work.{known_of}
 use Rattle.link_work.proofs.Told.{told-marks}
 use Rattle.link_work.proofs.planning.LinkPlanReadable.mark_count.Goals as goal
 
--- as many as were found
+-- as many as were read
 pub returns : goal.returns
 returns g c = λ it at.
     let plan = c.args.self.now in
-    let found = c.args.found.now in
-    let count : c.len.result ≡ length found.references.items = search rules in
-    count ∙ (sym (length-map found.references.items found_mark) ∙ ap (λ (l : List Mark). length l) (told-marks (known_of plan) plan.objects.items plan.items.items c.args._item it found c.requires at))
+    let read = c.args.read.now in
+    let count : c.len.result ≡ length read.references.items = search rules in
+    count ∙ (sym (length-map read.references.items found_mark) ∙ ap (λ (l : List Mark). length l) (told-marks (known_of plan) plan.objects.items plan.items.items c.args._item it read.references.items (λ z there. (c.requires z there).marks) at))

@@ -5,10 +5,10 @@ use Rattle.link_input.specs.Symbols.{Symbol}
 use Rattle.link_symbols.specs.Walk.{SymbolsLeft, with_ids}
 use Rattle.link_db.specs.Seen.{seen}
 use Rattle.link_files.specs.GroupFiles.{symbols_in}
-use Rattle.link_work.specs.Asked.{ArePart, IsFoundIn}
+use Rattle.link_work.specs.Asked.{ArePart, IsReadIn}
 use Rattle.link_work.specs.Items.{symbols_of_item}
-use Rattle.link_work.specs.Work.{found_in, known_of}
-use Rattle.link_work.proofs.Told.{nothing-found, ok-each}
+use Rattle.link_work.specs.Work.{known_of, read_in}
+use Rattle.link_work.proofs.Told.{nothing-read, ok-each}
 use Rattle.link_work.proofs.Unasked.{item_part}
 use Rattle.link_work.proofs.planning.LinkPlanReadable.read.Goals as goal
 
@@ -22,17 +22,17 @@ read_symbols-requires g c =
     ap (λ o. option_map_or with_ids o []) (sym c.in-Some.is) ∙ (c.item_symbols.ensures ∙ ap (λ (os : List SymbolsLeft). symbols_of_item os z) c.deref.ensures.value) in
     record { own = subst (λ (l : List (ℕ × Symbol)). ArePart all l) (sym same) (item_part plan.objects.items all plan.own z) }
 
--- what is found in the symbols of the item
+-- what is read in the symbols of the item
 pub returns-in-Some : goal.returns-in-Some
 returns-in-Some g c =
     let plan = c.args.self.now in
     let z = c.index.result.now in
     let items = plan.items.items in
-    ok-each c.read_symbols.result (IsFoundIn (known_of plan) (with_ids c.in-Some.symbols)) (found_in plan c.args.item)
-    c.read_symbols.ensures.found
-    (λ found is it at.
+    ok-each c.read_symbols.result (IsReadIn (known_of plan) (with_ids c.in-Some.symbols)) (read_in plan c.args.item)
+    c.read_symbols.ensures.read
+    (λ read is it at.
     let same : z ≡ it = same_Some z it (sym (slice_get_read items (length items) c.args.item z refl (slice_get_within items c.args.item it at) c.index.ensures) ∙ at) in
-    subst (λ (l : List (ℕ × Symbol)). IsFoundIn (known_of plan) l found)
+    subst (λ (l : List (ℕ × Symbol)). IsReadIn (known_of plan) l read)
     (ap (λ o. option_map_or with_ids o []) (sym c.in-Some.is) ∙ (c.item_symbols.ensures ∙ (ap (λ (os : List SymbolsLeft). symbols_of_item os z) c.deref.ensures.value ∙ ap (symbols_of_item plan.objects.items) same))) is)
 
 -- nothing where there is no such object
@@ -42,6 +42,6 @@ returns-in-None g c = λ it at.
     let z = c.index.result.now in
     let items = plan.items.items in
     let same : z ≡ it = same_Some z it (sym (slice_get_read items (length items) c.args.item z refl (slice_get_within items c.args.item it at) c.index.ensures) ∙ at) in
-    subst (λ (l : List (ℕ × Symbol)). IsFoundIn (known_of plan) l c.none.result)
+    subst (λ (l : List (ℕ × Symbol)). IsReadIn (known_of plan) l c.none.result)
     (ap (λ o. option_map_or with_ids o []) (sym c.in-None.is) ∙ (c.item_symbols.ensures ∙ (ap (λ (os : List SymbolsLeft). symbols_of_item os z) c.deref.ensures.value ∙ ap (symbols_of_item plan.objects.items) same)))
-    (nothing-found (known_of plan) c.none.result c.none.ensures.requests c.none.ensures.references)
+    (nothing-read (known_of plan) c.none.result c.none.ensures.requests c.none.ensures.references)
