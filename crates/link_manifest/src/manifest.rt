@@ -153,13 +153,13 @@ fn tree_of<'a>(
 
 /// The manifest that some bytes are: one JSON value of at most [`MAX_BYTES`] bytes in UTF-8 (RFC
 /// 8259), an object. Which keys it and the objects in it have, of which kind and in which order, tells
-/// the table in README.md at the top of the repository.
+/// docs/MANIFEST.md.
 ///
 /// Where the bytes are no manifest, the first fault is told: too many bytes, then no JSON value,
 /// then the first fault on a walk of the whole value from its root, at each object its kind, its
 /// least unknown key, and then its keys in their order; then the first custom section that repeats
-/// an earlier one; last, of the first object whose table fails a check of `InputObject::new`, the
-/// first check that it fails.
+/// an earlier one; then too many batches; last, of the first object whose table fails a check of
+/// `InputObject::new`, the first check that it fails.
 ///
 /// The JSON value is taken apart before the answer. For a program that links once and ends
 /// there is [`manifest_leaking_tree`], which doesn't pay for that.

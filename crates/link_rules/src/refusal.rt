@@ -15,7 +15,9 @@ pub enum ScriptOrigin {
     LinkerScript(usize),
 }
 
-/// Why a link is refused. Where several causes stand together, the one that comes first here is told.
+/// Why a link is refused. Where several causes stand together, the first one in this order is told: a text of the options
+/// that is no script; then, batch after batch, its linker scripts, the limits, no object, and a section in two groups of an
+/// object that is loaded by then; behind the last batch the duplicates, and a version that isn't declared.
 #[derive(Debug, Drop)]
 pub enum LinkError {
     /// A text is no script: the version script, the export list, forced export names, and linker scripts, in this order.
