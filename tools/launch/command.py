@@ -1,0 +1,184 @@
+"""The words of `wolzhyke`: those of the launch script itself, and those that it hands to the program."""
+
+import os
+import pathlib
+import re
+import subprocess
+import sys
+import tempfile
+import time
+
+from . import checked, proved
+from .crates import Crates
+from .kit import Kit, NoKit
+from .progress import minutes, seconds, tell
+from .store import CHECKED, PROVED, Store, sum_of
+
+TOP = pathlib.Path(__file__).resolve().parents[2]
+NAME = "link_program"
+VERSION = "wolzhyke 0.1.0, with the behaviour of libwild 0.11.0"
+MOST_WORKERS = 256
+# The statuses that are not the program's: no manifest can be made of the files, the program can't be built, and an interrupt.
+NO_MANIFEST, NOT_BUILT, INTERRUPTED = 7, 125, 130
+
+HELP = """wolzhyke: which files a link loads, and which definition each symbol means
+
+    ./wolzhyke files [W] -- LINKER WORDS    from object files, archives and shared objects to a report
+    ./wolzhyke link [W] < MANIFEST          from a manifest (JSON) to a report
+    ./wolzhyke bulk N [W]                   the summary of a made-up link of N archive members, 1 to 100000
+    ./wolzhyke prove                        proves the program, and runs the proved one from then on
+    ./wolzhyke --help, -h, help             this text
+    ./wolzhyke --version                    the version, and which program would run
+
+W is the number of workers, 1 to 256; without it there are as many as processors. LINKER WORDS are those of ld.
+`cc -### ..` prints the words that a compiler gives to it, and `--from-cc cc ..` in their place asks the compiler for
+them. `tools/manifest --help` says more.
+
+The report comes on standard output; a line `error: ..` in its place says why there is none.
+
+    0    linked                              5    standard output takes no more
+    1    the link is refused                 6    memory ran out
+    2    the words are no command            7    of these files no manifest can be made
+    3    standard input is no manifest       125  the program can't be built, or isn't proved
+    4    standard input can't be read        130  building was interrupted
+
+The first call builds the program in some two minutes, from the same sources and with run-time checks: an index out of
+range, a sum that overflows or the like ends it by a signal. Nothing is proved by that. `prove` has the checker prove
+each function and its contract, in some forty minutes on four processors, and goes on where an interrupted call left
+off. When a source changes, both programs are old.
+"""
+
+
+def stores():
+    """The programs that may stand, the best first."""
+    crates = Crates(TOP)
+    return [Store(crates, NAME, kind) for kind in (PROVED, CHECKED)]
+
+
+def standing():
+    """The best program that is made of the sources as they are, or None."""
+    return next((store for store in stores() if store.is_current()), None)
+
+
+def version():
+    """The version, and which program would run."""
+    store = standing()
+    if store is None:
+        is_old = any(it.stands() for it in stores())
+        which = "none that is as new as its sources" if is_old else "none is built yet"
+    elif store.kind == PROVED:
+        which = f"proved by {store.read()['kit']}"
+    else:
+        which = "with run-time checks, and not proved"
+    return f"{VERSION}\nprogram: {which}\n"
+
+
+def build_checked():
+    """Builds the program with checks, if no other call has done so meanwhile. Raises `NoModule` where this kit can't."""
+    store = stores()[1]
+    with store.building():
+        if not store.is_current():
+            began, sources = time.time_ns(), sum_of(store.crates, NAME)
+            with store.room() as made, seconds("building the program with run-time checks, without its proof"):
+                checked.build(TOP, NAME, made)
+                store.put(made, began, sources)
+    return store
+
+
+def build_proved():
+    """Proves and builds the program, if no other call has done so meanwhile, and tells by which kit."""
+    store, start = stores()[0], time.monotonic()
+    with store.building():
+        if store.is_current():
+            tell(f"wolzhyke: proved already, by {store.read()['kit']}\n")
+            return store
+        began, sources = time.time_ns(), sum_of(store.crates, NAME)
+        with store.room() as made:
+            kit = proved.prove(store.crates, NAME, made)
+            store.put(made, began, sources, kit=kit)
+    tell(f"wolzhyke: proved, by {kit}, in {minutes(time.monotonic() - start)}\n")
+    return store
+
+
+def program():
+    """The program to run. Where none is as new as its sources, one is built first."""
+    try:
+        return (standing() or build_checked()).program
+    except checked.NoModule as reason:
+        tell(f"{reason}\nwolzhyke: this kit builds no program without its proof, so it is proved\n")
+        return build_proved().program
+
+
+def workers():
+    """As many workers as there are processors to use."""
+    return str(min(len(os.sched_getaffinity(0)), MOST_WORKERS))
+
+
+def with_workers(words):
+    """The words with the number of workers that they leave out."""
+    left_out = words == ["link"] or words[:1] == ["bulk"] and len(words) == 2 or words[:2] == ["files", "--"]
+    if not left_out:
+        return words
+    at = 2 if words[0] == "bulk" else 1
+    return [*words[:at], workers(), *words[at:]]
+
+
+def are_files(words):
+    """Whether the words make a manifest first. Other words go to the program, which says what is wrong with them."""
+    return words[:1] == ["files"] and len(words) > 2 and words[2] == "--" and is_count(words[1])
+
+
+def is_count(word):
+    """Whether a word is a number of workers, as the program reads it."""
+    return re.fullmatch("[1-9][0-9]{0,2}", word, re.ASCII) is not None and int(word) <= MOST_WORKERS
+
+
+def manifest_of(words):
+    """A file with the manifest of a linker's words, from its beginning, or None: then the tool has said why."""
+    manifest = tempfile.TemporaryFile()
+    if subprocess.run([f"{TOP}/tools/manifest", *words], stdout=manifest).returncode:
+        return None
+    manifest.seek(0)
+    return manifest
+
+
+def run(words):
+    """Runs the program in the place of this one."""
+    words = with_workers(words)
+    if are_files(words):
+        try:
+            manifest = manifest_of(words[3:])
+        except OSError as reason:
+            tell(f"error: manifest: {reason.strerror}\n")
+            manifest = None
+        if manifest is None:
+            return NO_MANIFEST
+        os.dup2(manifest.fileno(), 0)
+        words = ["link", words[1]]
+    path = program()
+    os.execv(path, [path, *words])
+    return NOT_BUILT
+
+
+def main(words):
+    """Runs the launch script, and answers its status."""
+    if words[:1] in (["--help"], ["-h"], ["help"]):
+        print(HELP, end="")
+        return 0
+    try:
+        if words == ["--version"]:
+            print(version(), end="")
+            return 0
+        if words == ["prove"]:
+            build_proved()
+            return 0
+        return run(words)
+    except KeyboardInterrupt:
+        tell("\nwolzhyke: interrupted; what is proved by now stays so\n" if words == ["prove"] else "\nwolzhyke: interrupted\n")
+        ending = INTERRUPTED
+    except (NoKit, proved.NotProved, OSError) as reason:
+        tell(f"{reason}\n" if isinstance(reason, proved.NotProved) else f"wolzhyke: {reason}\n")
+        ending = NOT_BUILT
+    # Crates that are being proved end with this program, which doesn't wait for them.
+    sys.stdout.flush()
+    os._exit(ending)
