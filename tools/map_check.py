@@ -16,6 +16,7 @@ TOP = Path(__file__).resolve().parent.parent
 ITEM = re.compile(r"^- `([^`]+)`[:,](.*(?:\n[ ]+.*)*)", re.MULTILINE)
 STANDS_ON = re.compile(r"Stands on: ([^.]*)\.\s*$")
 HOLDS = re.compile(r"(?:Definitions|Laws): ([^.]*)\.\s*$")
+MARKS = re.compile(r"(?:Stands on|Definitions|Laws): ")
 NAMED = re.compile(r"`([^`\s]+)`")
 FENCED = re.compile(r"^```.*?^```$", re.MULTILINE | re.DOTALL)
 
@@ -94,10 +95,20 @@ def source_faults(text, items, top):
     return faults
 
 
+def form_faults(items):
+    """Items that list something, but not in the form that is read: at the end, with a full stop."""
+    return [
+        f"{head}: its list does not end with a full stop at the end of the item"
+        for head, text in items
+        if MARKS.search(text) and not STANDS_ON.search(text) and not HOLDS.search(text)
+    ]
+
+
 def faults_of(text, crates_text, top):
     """All differences, a line each."""
     items = items_of(text)
-    return crate_faults(told_crates(items), crates_of(crates_text)) + source_faults(text, items, top)
+    faults = form_faults(items) + crate_faults(told_crates(items), crates_of(crates_text))
+    return faults + source_faults(text, items, top)
 
 
 def main():

@@ -59,6 +59,11 @@ class MapCheck(unittest.TestCase):
         above = ["low: does not stand on high", "low: comes before high in the map"]
         self.assertEqual(self.faults("Stands on: nothing.", "Stands on: high."), above)
 
+    def test_lists_have_their_form(self):
+        form = "low/src/lib.rt: its list does not end with a full stop at the end of the item"
+        self.assertEqual(self.faults("`words_are_texts`.", "`words_are_texts`"), [form])
+        self.assertEqual(self.faults("`words_are_texts`.", "`words_are_texts`. And more."), [form])
+
     def test_files_and_definitions_are_looked_for(self):
         self.assertEqual(self.faults("`word`", "`ward`"), ["low/specs/Words: does not define ward"])
         self.assertEqual(self.faults("`word`", "`inner`"), ["low/specs/Words: does not define inner"])
