@@ -5,14 +5,16 @@ import json
 import os
 import random
 import struct
+import sys
 import tempfile
 import unittest
 
 from linker_inputs import archives, elf, linker_script, words
 from linker_inputs.faults import Fault, Warnings
 from linker_inputs.linker_symbols import linker_symbols
-from linker_inputs.main import manifest_of
+from linker_inputs.main import manifest_of, words_of_compiler
 from linker_inputs.names import Names, json_of
+from linker_inputs.response_files import expanded, joined, split
 
 
 def section(name, kind, content=b"", link=0, info=0, entry=0):
@@ -101,6 +103,15 @@ class Tables(unittest.TestCase):
         self.assertEqual(table.groups, [{"header": 1, "signature": 2, "comdat": True, "members": [2, 3]}])
         self.assertEqual(json.loads(table.symbols[1])["name"], ".text.f")
         self.assertEqual(table.custom_sections, {b"steps"})
+
+    def test_signatures(self):
+        """Each row is the symbol that signs a group of section 2, and the signature that the manifest has."""
+        rows = [((b"f", 0x22, 0, 2, 0), "f"), ((b"", 0x03, 0, 2, 0), ".text.f"), ((b"f", 0x03, 0, 2, 0), "f"), ((b"", 0x00, 0, 2, 0), "")]
+        for symbol, signature in rows:
+            with self.subTest(symbol=symbol):
+                group = section(b".group", elf.GROUP, struct.pack("<II", 1, 2), info=1)
+                found = entries(object_bytes([symbol], [group, section(b".text.f", 1)]))
+                self.assertEqual(found[0]["name"], signature)
 
     def test_refused(self):
         whole = object_bytes([(b"foo", 0x12, 0, 1, 0)])
@@ -248,29 +259,103 @@ class Words(unittest.TestCase):
         self.assertEqual([line.split(":")[1].strip() for line in told], ["--gc-sections", "--no-such-word"])
 
     def test_refused(self):
-        for line in ("-u", "--defsym=a", "@no/such/file", "--version-script=no/such/file", "-b binary"):
+        for line in ("-u", "--defsym=a", "--version-script=no/such/file", "-b binary"):
             with self.subTest(line=line), self.assertRaises(Fault):
                 words.read_words(line.split(), quiet())
 
 
-class Whole(unittest.TestCase):
-    """Whole manifests, of files in a folder."""
+class InFolder(unittest.TestCase):
+    """Tests with files in a folder of their own."""
 
     def setUp(self):
         self.folder = tempfile.TemporaryDirectory()
         self.before = os.getcwd()
         os.chdir(self.folder.name)
-        files = {"main.o": object_bytes([(b"foo", 0x10, 0, 0, 0), (b"_end", 0x10, 0, 0, 0)]), "foo.o": object_bytes([(b"foo", 0x12, 0, 1, 0)])}
-        files["libfoo.a"] = archive_bytes([(b"foo.o", files["foo.o"]), (b"notes", b"text")])
-        files["libbar.so"] = b"INPUT(libfoo.a)"
-        files["words"] = b"main.o '-L.' -lbar"
-        for name, data in files.items():
-            with open(name, "wb") as file:
-                file.write(data)
 
     def tearDown(self):
         os.chdir(self.before)
         self.folder.cleanup()
+
+    def write(self, files):
+        for name, data in files.items():
+            with open(name, "wb") as file:
+                file.write(data)
+
+
+# A compiler that tells its words as those of a linker, as GCC's and clang's drivers quote them. It refuses response files.
+COMPILER = f"""#!{sys.executable}
+import os, sys
+assert sys.argv.pop() == "-###" and "@libs.rsp" not in sys.argv
+quoted = ["".join("\\\\" * (letter in '"$\\\\') + letter for letter in word) for word in sys.argv[1:]]
+os.write(2, os.fsencode("some compiler\\n /usr/bin/ld " + " ".join(f'"{{word}}"' for word in quoted) + "\\n"))
+"""
+# A compiler that hands words of a response file on in another one, which it keeps only where it is told to, as GCC's driver does.
+DRIVER = f"""#!{sys.executable}
+import os, sys
+assert sys.argv[1].startswith("@") and len(sys.argv) < 8
+name = (sys.argv[4] if "-save-temps" in sys.argv else "no/such/folder/") + "args.0"
+if "-save-temps" in sys.argv:
+    os.link(sys.argv[1][1:], name)
+print(f' ld "@{{name}}"', file=sys.stderr)
+"""
+
+
+class ResponseFiles(InFolder):
+    """Response files: each row is a text, and the words that it holds."""
+
+    ROWS = [
+        (" a.o\n-lz\t\r\n b.o ", ["a.o", "-lz", "b.o"]),
+        ("", []),
+        ("'a b.o' \"c d.o\" e\\ f.o", ["a b.o", "c d.o", "e f.o"]),
+        ("-L'a b'/c \"\" ''", ["-La b/c", "", ""]),
+        ("\"a\\\"b\" 'a\\'b' \\\"a a\\\\b \"a\\$b\"", ['a"b', "a'b", '"a', "a\\b", "a$b"]),
+        ("\"a'b\" 'a\"b'", ["a'b", 'a"b']),
+        ("'a b", ["a b"]),
+        ("a\\\nb a\u00a0b", ["a\nb", "a\u00a0b"]),
+    ]
+
+    def test_rows(self):
+        for text, found in self.ROWS:
+            with self.subTest(text=text):
+                self.assertEqual(split(text), found)
+                self.assertEqual(split(joined(found)), found)
+
+    def test_expanded(self):
+        self.write({"out.rsp": b"a @in.rsp @no/such/file b\0c", "in.rsp": b"'-u x' @empty", "empty": b" \n", "loop": b"x @loop"})
+        self.assertEqual(list(expanded(["@out.rsp", "@", "d"])), ["a", "-u x", "@no/such/file", "b", "@", "d"])
+        with self.assertRaises(Fault):
+            list(expanded(["@loop"]))
+
+    def test_compiler(self):
+        odd = ["main.o", "a b.o", "-u", 'x"$y\\z', "@no/such/file", "\u00e9\udcff"]
+        self.write({"cc": COMPILER.encode(), "libs.rsp": os.fsencode(joined(odd[1:]))})
+        os.chmod("cc", 0o755)
+        self.assertEqual(words_of_compiler(["./cc", "main.o", "@libs.rsp"]), odd)
+        for line in ([], ["./no-such-cc", "main.o"], ["./libs.rsp"]):
+            with self.subTest(line=line), self.assertRaises(Fault):
+                words_of_compiler(line)
+
+    def test_long(self):
+        """Words that are too many for a command reach the compiler in a file, and come back in the one that it keeps."""
+        many = [f"{number:099}" for number in range(70000)]
+        self.write({"cc": DRIVER.encode(), "many.rsp": joined(many).encode()})
+        os.chmod("cc", 0o755)
+        self.assertEqual(words_of_compiler(["./cc", "@many.rsp"]), many)
+
+
+class Whole(InFolder):
+    """Whole manifests, of files in a folder."""
+
+    def setUp(self):
+        super().setUp()
+        files = {"main.o": object_bytes([(b"foo", 0x10, 0, 0, 0), (b"_end", 0x10, 0, 0, 0)]), "foo.o": object_bytes([(b"foo", 0x12, 0, 1, 0)])}
+        files["libfoo.a"] = archive_bytes([(b"foo.o", files["foo.o"]), (b"notes", b"text")])
+        files["libbar.so"] = b"INPUT(libfoo.a)"
+        files["words"] = b"main.o '-L.' -lbar"
+        files |= {"x.so": shared_bytes(), "one.ld": b"x = 1; INPUT(foo.o)", "two.ld": b"INPUT(foo.o ./foo.o)", "self.ld": b"INPUT(./self.ld)"}
+        files["needed.ld"] = b"INPUT(AS_NEEDED(x.so))"
+        self.write(files)
+        os.symlink("foo.o", "link.o")
 
     def manifest(self, line):
         return json.loads(manifest_of(line.split(), quiet()))
@@ -293,8 +378,45 @@ class Whole(unittest.TestCase):
         self.assertEqual([entry.get("whole_archive", False) for entry in found["objects"]], [True, True])
         self.assertEqual([entry["archive"] for entry in found["objects"]], [True, True])
 
+    def test_twice(self):
+        """Each row is some words, and the files behind main.o: objects count as often as they are named, others once."""
+        rows = {
+            "foo.o foo.o": ["foo.o", "foo.o"],
+            "foo.o ./foo.o link.o": ["foo.o", "./foo.o", "link.o"],
+            "foo.o -L. -l:foo.o": ["foo.o", "./foo.o"],
+            "-r foo.o foo.o": ["foo.o", "foo.o"],
+            "--start-lib foo.o foo.o --end-lib foo.o": ["foo.o", "foo.o", "foo.o"],
+            "two.ld": ["foo.o", "foo.o"],
+            "one.ld ./one.ld": ["foo.o", "foo.o"],
+            "foo.o one.ld": ["foo.o", "foo.o"],
+            "libfoo.a ./libfoo.a": ["libfoo.a(foo.o)"],
+            "--whole-archive libfoo.a libfoo.a": ["libfoo.a(foo.o)"],
+            "x.so ./x.so": ["x.so"],
+        }
+        for line, names in rows.items():
+            with self.subTest(line=line):
+                found = self.manifest("main.o " + line)
+                self.assertEqual([entry["name"] for entry in found["objects"]], ["main.o", *names])
+                self.assertEqual([script["name"] for script in found.get("scripts", [])], ["one.ld"] if "one" in line else [])
+
+    def test_again(self):
+        """Each row is some words, and whether what stands there twice is whole, or as needed."""
+        rows = {
+            "libfoo.a --whole-archive libfoo.a": "whole_archive",
+            "--whole-archive libfoo.a --no-whole-archive libfoo.a": "whole_archive",
+            "--as-needed x.so x.so": "as_needed",
+            "--as-needed x.so --no-as-needed x.so": None,
+            "x.so --as-needed x.so": None,
+            "needed.ld needed.ld": "as_needed",
+            "needed.ld x.so": None,
+        }
+        for line, mark in rows.items():
+            with self.subTest(line=line):
+                found = self.manifest("main.o " + line)["objects"][1]
+                self.assertEqual([key for key in ("whole_archive", "as_needed") if key in found], [mark] if mark else [])
+
     def test_refused(self):
-        for line in ("", "no.o", "-lnone main.o", "words", "--no-such-word"):
+        for line in ("", "no.o", "-lnone main.o", "words", "--no-such-word", "main.o @no/such/file", "main.o self.ld"):
             with self.subTest(line=line), self.assertRaises(Fault):
                 self.manifest(line)
 
@@ -303,6 +425,15 @@ class Whole(unittest.TestCase):
         found = {kind: [entry["name"] for entry in linker_symbols(*kind, names)] for kind in (("static", False), ("static", True), ("shared", True), ("partial", False))}
         expected = [["_end", "__rela_iplt_start"], ["_end", "_DYNAMIC"], ["_end", "_DYNAMIC"], []]
         self.assertEqual(list(found.values()), expected)
+
+    def test_static_pie(self):
+        """The ends of a table of relocations, which GNU ld defines only where an executable has a fixed place."""
+        names = ["__rela_iplt_start", "__rela_iplt_end"]
+        self.write({"ends.o": object_bytes([(name.encode(), 0x20, 2, 0, 0) for name in names])})
+        for line, defined in {"-static": names, "": names, "-static -pie --no-dynamic-linker -z text": [], "-pie": [], "-shared": []}.items():
+            with self.subTest(line=line):
+                found = self.manifest(line + " ends.o").get("linker_symbols", [])
+                self.assertEqual([entry["name"] for entry in found], defined)
 
 
 if __name__ == "__main__":

@@ -39,6 +39,7 @@ cc -shared -o libpicture.so area.pic.o scale.pic.o versions.pic.o -Wl,--version-
 c++ -c {cxx}/main.cc -o main.cxx.o
 c++ -c {cxx}/fill.cc
 ar rcs libfill.a fill.o
+cc -c {c}/log.c -o "odd name's.o"
 """
 
 # A name, the compiler's words, objects that have to be loaded, and objects that have to stay outside.
@@ -49,6 +50,7 @@ LINKS = [
     ("forced", "cc main.o -Wl,-u,count_steps -L. -lshapes -lsteps", ["./libsteps.a(sections.o)"], []),
     ("entry", "cc -nostartfiles -Wl,-e,count_steps main.o -L. -lshapes -lsteps", ["./libsteps.a(sections.o)"], []),
     ("redirect", "cc main.o -Wl,--defsym=trace=count_steps -L. -lshapes -lsteps", ["./libsteps.a(sections.o)"], []),
+    ("the same object twice", "cc main.o area.o area.o scale.o -Wl,-z,muldefs", ["area.o", "scale.o"], []),
     ("several definitions", "cc main.o area.o scale.o volume.o -Wl,-z,muldefs", ["scale.o", "volume.o"], []),
     ("wrapped", "cc main.o wrap.o -Wl,--wrap=scale -L. -lshapes", ["wrap.o", "./libshapes.a(scale.o)"], []),
     ("whole archive", "cc main.o area.o scale.o -Wl,--whole-archive -L. -l:libfill.a -Wl,--no-whole-archive -lstdc++", ["./libfill.a(fill.o)"], []),
@@ -60,18 +62,34 @@ LINKS = [
     ("C++, shared", "c++ main.cxx.o fill.o", ["fill.o"], []),
     ("C++ archive", "c++ main.cxx.o -L. -lfill", ["./libfill.a(fill.o)"], []),
     ("C++, partial", "c++ -r main.cxx.o fill.o", ["fill.o"], []),
+    ("response file", "cc main.o @libs.rsp", ["./libshapes.a(area.o)", "odd name's.o"], ["./libshapes.a(volume.o)"]),
+    ("C++, response file", "c++ main.cxx.o @libs.rsp", ["./libfill.a(fill.o)", "odd name's.o"], []),
+    ("response file, long", "cc main.o @long.rsp", ["./libshapes.a(area.o)"], ["./libshapes.a(volume.o)"]),
 ]
+# Those that want clang.
+CLANG_LINKS = [("clang, response file", "clang main.o @libs.rsp", ["./libshapes.a(area.o)", "odd name's.o"], ["./libshapes.a(volume.o)"])]
 # Those that want static libraries of the system.
 STATIC_LINKS = [
     ("static", "cc -static main.o -L. -lshapes", ["./libshapes.a(area.o)"], ["./libshapes.a(volume.o)"]),
+    ("static PIE", "cc -static-pie main.o -L. -lshapes", ["./libshapes.a(area.o)"], ["./libshapes.a(volume.o)"]),
     ("C++, static", "c++ -static main.cxx.o -L. -lfill", ["./libfill.a(fill.o)"], []),
 ]
 
 
+# Response files: one in another one, with blanks and quotes, and one of more words than a command may have.
+TEXTS = {
+    "libs.rsp": "-L. -lshapes '-lfill'\n@odd.rsp",
+    "odd.rsp": "\"odd name's.o\" -Wl,-rpath-link,'a b' -Wl,--as-needed -lpicture",
+    "long.rsp": "-L. -lshapes" + "".join(f"\n-Wl,-rpath-link,/no/such/folder/of/a/name/that/is/rather/long/{number}" for number in range(35000)),
+}
+
+
 def build():
-    """Compiles the sources in the folder at hand."""
+    """Compiles the sources in the folder at hand, and writes the response files."""
     for line in BUILD.format(c=HERE / "c", cxx=HERE / "cxx").strip().splitlines():
         subprocess.run(shlex.split(line), check=True)
+    for name, text in TEXTS.items():
+        pathlib.Path(name).write_text(text, encoding="utf-8")
 
 
 def has_static_libraries():
@@ -105,7 +123,7 @@ def main():
     with tempfile.TemporaryDirectory() as folder:
         os.chdir(folder)
         build()
-        links = LINKS + (STATIC_LINKS if has_static_libraries() else [])
+        links = LINKS + (CLANG_LINKS if shutil.which("clang") else []) + (STATIC_LINKS if has_static_libraries() else [])
         try:
             results = [check_link(program, *link) for link in links] + linkers.check(program)
         except Fault as fault:

@@ -30,6 +30,7 @@ from linker_inputs.faults import Warnings  # noqa: E402
 from linker_inputs.inputs import Inputs  # noqa: E402
 from linker_inputs.manifest import manifest_pieces  # noqa: E402
 from linker_inputs.names import Names  # noqa: E402
+from linker_inputs.response_files import joined  # noqa: E402
 from linker_inputs.words import read_words  # noqa: E402
 
 # A name to which references disappear as GNU ld relaxes thread-local accesses of an executable.
@@ -176,12 +177,13 @@ def group_sections(inputs):
 
 
 def run_linker(words, folder):
-    """What GNU ld writes: its messages, its map with the table of cross references, and its output."""
-    map_file, output = os.path.join(folder, "map"), os.path.join(folder, "output")
+    """What GNU ld writes: its messages, its map with the table of cross references, and its output. It is given a response file."""
+    map_file, output, word_file = (os.path.join(folder, name) for name in ("map", "output", "words"))
+    pathlib.Path(word_file).write_bytes(os.fsencode(joined(words)))
     more = ["-o", output, "-Map", map_file, "--cref", "-t", "-t", "--no-demangle"]
     more += ["--warn-unresolved-symbols", "--noinhibit-exec"]
     environment = {**os.environ, "LC_ALL": "C"}
-    done = subprocess.run(["ld", *words, *more], capture_output=True, text=True, errors="backslashreplace", env=environment)
+    done = subprocess.run(["ld", f"@{word_file}", *more], capture_output=True, text=True, errors="backslashreplace", env=environment)
     messages = done.stdout + done.stderr
     if done.returncode != 0 or not os.path.exists(output):
         raise SystemExit(f"ld ends with {done.returncode}: {messages[-2000:]}")

@@ -8,6 +8,7 @@ gold, lld and mold; docs/DIFFERENCES.md lists them. A file is written in a few s
     hidden NAME                         NAME, which the file defines or asks for, is hidden
     ref NAME, weakref NAME              a reference: strong, weak
     group SIGNATURE NAME                a weak definition of NAME in a COMDAT group
+    signed SECTION NAME                 a definition of NAME in a COMDAT group which a section's symbol signs
     section SECTION                     some data in a section of this name
     version NAME OTHER VERSION          the definition of NAME stands for OTHER@@VERSION too
 
@@ -56,6 +57,7 @@ def statement(file, kind, name, *rest):
         "ref": reference,
         "weakref": [f".weak {name}", *reference],
         "group": [f'.section .data.{name},"awG",%progbits,{name},comdat', *definition("".join(rest), file, True)],
+        "signed": [f'.section .data.{name},"awG",%progbits,.data.{name},comdat', *definition("".join(rest), file, False)],
         "section": [f'.section {name},"aw",%progbits', ".8byte 1"],
         "version": [f".symver {name}, {'@@'.join(rest)}"],
     }

@@ -21,6 +21,8 @@ IS_HIDDEN_VERSION = 0x8000
 
 BINDS = {0: ',"bind":"local"', 1: "", 2: ',"bind":"weak"', 10: ',"bind":"unique"'}
 VISIBILITIES = {0: "", 1: ',"vis":"hidden"', 2: ',"vis":"hidden"', 3: ',"vis":"protected"'}
+# The type of a symbol that stands for its section.
+SECTION_SYMBOL = 3
 KINDS = {2: ',"kind":"func"', 6: ',"kind":"tls"', 10: ',"kind":"ifunc"'}
 # Reserved section numbers; 0xff02 is the large common block of x86-64.
 UNDEFINED, LARGE_COMMON, ABSOLUTE, COMMON, WIDE = 0, 0xFF02, 0xFFF1, 0xFFF2, 0xFFFF
@@ -188,19 +190,25 @@ def version_suffix(version, is_default):
 
 
 def read_groups(file, table):
-    """The section groups. A group that a section's symbol signs has the section's name, as linkers take it."""
+    """The section groups. GNU ld, gold and mold name a group that a section's symbol signs by that section; so does the table."""
     for header, section in enumerate(file.sections):
         if section[1] != GROUP:
             continue
         flags, *members = file.words("I", file.bytes_of(header))
         signature = section[7]
         table.groups.append({"header": header, "signature": signature, "comdat": flags & 1 == 1, "members": members})
-        if 0 < signature <= len(table.symbols) and table.symbols[signature - 1].startswith('{"name":"",'):
-            entry = table.symbols[signature - 1]
-            place = re.match(r'\{"name":"","place":(\d+)', entry)
-            if place:
-                name = file.section_names.json(file.sections[int(place[1])][0])
-                table.symbols[signature - 1] = entry.replace('""', name, 1)
+        if 0 < signature <= len(table.symbols):
+            name_section_symbol(file, table, signature - 1)
+
+
+def name_section_symbol(file, table, at):
+    """Gives an entry without a name that is a section's symbol the section's name."""
+    entry = table.symbols[at]
+    place = re.match(r'\{"name":"","place":(\d+)', entry)
+    symbols = file.bytes_of(file.first_of(SYMBOL_TABLE)) if place else b""
+    if place and symbols[(at + 1) * 24 + 4] & 15 == SECTION_SYMBOL:
+        name = file.section_names.json(file.sections[int(place[1])][0])
+        table.symbols[at] = entry.replace('""', name, 1)
 
 
 def read_custom_sections(file, table, warnings):

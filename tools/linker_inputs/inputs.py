@@ -24,7 +24,7 @@ class Entry:
 
 
 class Inputs:
-    """Reads the files of a command, each path once."""
+    """Reads the files of a command. Archives and shared objects count once each; objects and scripts, as often as they are named."""
 
     def __init__(self, command, warnings):
         self.warnings = warnings
@@ -32,7 +32,8 @@ class Inputs:
         self.entries = []
         self.scripts = []
         self.undefined = []
-        self.read = {}  # the entries of each path that was read
+        self.read = {}  # the entries of each archive and shared object, by its real path
+        self.read_scripts = set()
         self.open_scripts = []
         self.symbols = 0
         self.began = self.told = time.monotonic()
@@ -62,22 +63,23 @@ class Inputs:
             return
         data = open_file(path)
         start = len(self.entries)
-        self.read[key] = []
         magic = bytes(data[:8])
         if magic.startswith(elf.MAGIC):
             self.add_table(path, data, state.lazy, state)
+            if not self.entries[-1].table.dynamic:
+                return
         elif magic in (archives.PLAIN, archives.THIN):
             for name, member in archives.members(path, data, open_file):
                 self.add_member(f"{path}({name})", member, state)
         elif magic.startswith(INTERMEDIATE_CODE):
             raise Fault(path, "holds intermediate code of a compiler, which only its plugin reads")
         else:
-            self.add_script(path, bytes(data), state)
+            self.add_script(path, key, bytes(data), state)
             return
         self.read[key] = self.entries[start:]
 
     def again(self, entries, state):
-        """A file that was read before: it is as needed only where it always is, and whole where it once is."""
+        """An archive or a shared object that comes again: it is as needed only where it always is, and whole where it once is."""
         for entry in entries:
             entry.whole_archive |= entry.archive and state.whole_archive
             entry.as_needed &= state.as_needed
@@ -103,18 +105,15 @@ class Inputs:
             self.told = now
             print(f"manifest: {len(self.entries)} objects, {self.symbols} symbols", file=sys.stderr, flush=True)
 
-    def add_script(self, path, data, state):
-        """A linker script: its inputs take the place where it stands."""
-        if path in self.open_scripts:
+    def add_script(self, path, key, data, state):
+        """A linker script: its inputs take the place where it stands. Where it comes again, its inputs do, and nothing else of it."""
+        if key in self.open_scripts:
             raise Fault(path, "includes itself")
         script = linker_script.read_script(path, data)
-        self.open_scripts.append(path)
-        self.search.folders += [self.search.rooted(folder) for folder in script.search]
-        self.undefined += script.undefined
-        if script.lays_out:
-            self.warnings.tell(path, "of SECTIONS, only the symbols that it defines are told")
-        if script.entry is not None or script.version is not None or script.symbols:
-            self.scripts.append(script)
+        self.open_scripts.append(key)
+        if key not in self.read_scripts:
+            self.read_scripts.add(key)
+            self.take_statements(script)
         for name in script.includes:
             self.add(self.search.script_input(name, path), state)
         for name, as_needed in script.inputs:
@@ -124,6 +123,15 @@ class Inputs:
             found = self.search.library(name[2:], state.shared) if is_library else self.search.script_input(name, path)
             self.add(found, inner)
         self.open_scripts.pop()
+
+    def take_statements(self, script):
+        """What a script says beside its inputs."""
+        self.search.folders += [self.search.rooted(folder) for folder in script.search]
+        self.undefined += script.undefined
+        if script.lays_out:
+            self.warnings.tell(script.name, "of SECTIONS, only the symbols that it defines are told")
+        if script.entry is not None or script.version is not None or script.symbols:
+            self.scripts.append(script)
 
 
 def open_file(path):

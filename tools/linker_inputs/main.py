@@ -1,13 +1,15 @@
 """The tool's own words: from a linker's words to the manifest on standard output."""
 
+import errno
 import os
-import shlex
 import subprocess
 import sys
+import tempfile
 
 from .faults import Fault, Warnings
 from .inputs import Inputs
 from .manifest import MOST_BYTES, manifest_pieces
+from .response_files import expanded, joined, split
 from .words import read_words
 
 HELP = """tools/manifest LINKER WORDS
@@ -26,15 +28,42 @@ Ends with 0, or with 1 and one line `error: FILE: ..` on standard error. Warning
 
 
 def words_of_compiler(words):
-    """The words that a compiler would give to its linker: the last command that it tells."""
-    try:
-        done = subprocess.run([*words, "-###"], capture_output=True, text=True)
-    except (OSError, IndexError):
-        raise Fault(" ".join(words[:1]), "can't be run") from None
-    commands = [line for line in done.stderr.splitlines() if line.startswith(" ")]
+    """The words that a compiler would give to its linker.
+
+    Response files are put in place first: GCC's driver, where it is given one, hands words on to the linker in another one,
+    which is gone as the driver ends.
+    """
+    words = list(expanded(words))
+    with tempfile.TemporaryDirectory() as folder:
+        try:
+            return told_words(words)
+        except OSError as reason:
+            if reason.errno != errno.E2BIG:
+                raise Fault(" ".join(words[:1]), "can't be run") from None
+        return list(expanded(told_words_at_length(words, folder)))
+
+
+def told_words(words):
+    """The words of the last command that a compiler tells."""
+    if not words:
+        raise Fault("--from-cc", "wants a compiler and its words")
+    done = subprocess.run([*words, "-###"], capture_output=True, stdin=subprocess.DEVNULL)
+    lines = os.fsdecode(done.stderr).split("\n")
+    commands = [line for line in lines if line.startswith(" ")]
     if done.returncode != 0 or not commands:
-        raise Fault(words[0], f"tells no linker's words: {done.stderr.strip().splitlines()[-1:]}")
-    return shlex.split(commands[-1])[1:]
+        raise Fault(words[0], f"tells no linker's words: {[line for line in lines if line][-1:]}")
+    return split(commands[-1])[1:]
+
+
+def told_words_at_length(words, folder):
+    """The same, where the words are too many for a command: they stand in a file, and GCC's driver keeps the one that it makes."""
+    path = os.path.join(folder, "words")
+    with open(path, "wb") as file:
+        file.write(os.fsencode(joined(words[1:])))
+    told = told_words([words[0], "@" + path])
+    if any(word.startswith("@") and not os.path.exists(word[1:]) for word in told):
+        told = told_words([words[0], "@" + path, "-save-temps", "-dumpdir", folder + "/"])
+    return told
 
 
 def manifest_of(words, warnings):
@@ -55,7 +84,7 @@ def main(words):
         print(HELP, end="")
         return 0
     try:
-        if words[0] == "--from-cc":
+        if words[:1] == ["--from-cc"]:
             words = words_of_compiler(words[1:])
         sys.stdout.buffer.write(manifest_of(words, Warnings()))
         sys.stdout.flush()

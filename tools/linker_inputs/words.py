@@ -1,9 +1,8 @@
 """The words of a linker: options and inputs, in the order in which they stand."""
 
-import shlex
-
 from .faults import Fault
 from .linker_script import expression_names
+from .response_files import expanded
 
 
 class State:
@@ -92,22 +91,6 @@ STATES = {
     "whole-archive": ("whole_archive", True), "no-whole-archive": ("whole_archive", False),
     "start-lib": ("lazy", True), "end-lib": ("lazy", False),
 }  # fmt: skip
-
-
-def expanded(words, depth=0):
-    """The words, with those of response files in place of `@FILE`."""
-    for word in words:
-        if not word.startswith("@"):
-            yield word
-            continue
-        if depth == 16:
-            raise Fault(word, "is a response file in response files too deep")
-        try:
-            with open(word[1:], encoding="utf-8", errors="surrogateescape") as file:
-                inner = shlex.split(file.read(), posix=True)
-        except (OSError, ValueError) as reason:
-            raise Fault(word[1:], reason.strerror if isinstance(reason, OSError) else f"as a response file: {reason}") from None
-        yield from expanded(inner, depth + 1)
 
 
 class WordReader:
