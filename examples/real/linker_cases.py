@@ -296,7 +296,7 @@ CASES = [
         texts={"map": "{ global: foo; local: * };"},
     ),
     Case(
-        "no object",
+        "members of an archive alone",
         {"a": "def foo"},
         "liba.a",
         {"report ld gold mold": "loads ", "lld": "refuses"},
