@@ -6,7 +6,7 @@
 Compiles the sources of `c/` and `cxx/` with the system's compilers (`cc` and `c++`), makes archives and a shared library of
 them, and links them in several ways. PROGRAM is one or more words, crates/link_program/out/link_program by default. What
 is compared, `compare.py` says; here it is also said what has to be loaded, and what not. Then the small inputs of
-`linkers.py` are linked, of which docs/DIFFERENCES.md says that linkers answer them otherwise.
+`linkers.py` are linked, of which docs/LINKERS.md says that linkers answer them otherwise.
 Where no compiler or no GNU ld is there, one line says so, and the status is 0. What differs ends with status 1.
 """
 import os

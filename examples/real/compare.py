@@ -7,7 +7,7 @@ Makes the manifest of the words, runs PROGRAM on it (one or more words, `link 2`
 the same words and with -t -t, -Map and --cref. Compared are the files that are loaded (of shared objects, those that the
 output asks for), the sections of COMDAT groups that are left out, the names to which no definition is found, for each
 name that a loaded object defines, which file defines it, and the names that a shared output exports, with their versions.
-What differs is told, a line each. A line that begins with `known: ` is of a kind that docs/DIFFERENCES.md lists; where
+What differs is told, a line each. A line that begins with `known: ` is of a kind that docs/LINKERS.md lists; where
 there is another one, the status is 1.
 """
 import collections

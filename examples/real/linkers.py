@@ -1,7 +1,7 @@
 """Small inputs that linkers answer in different ways, and what each of them answers.
 
 Each case (`linker_cases.py`) is some files, the words that link them, and the answer of the report beside those of GNU ld,
-gold, lld and mold; docs/DIFFERENCES.md lists them. A file is written in a few statements, with `;` between two:
+gold, lld and mold; docs/LINKERS.md lists them. A file is written in a few statements, with `;` between two:
 
     def NAME, weak NAME, unique NAME    a definition: strong, weak, unique
     common NAME SIZE                    a common symbol
