@@ -4,9 +4,10 @@
     examples/real/check.py [PROGRAM]
 
 Compiles the sources of `c/` and `cxx/` with the system's compilers (`cc` and `c++`), makes archives and a shared library of
-them, and links them in several ways. PROGRAM is one or more words, crates/link_program/out/link_program by default. What
-is compared, `compare.py` says; here it is also said what has to be loaded, and what not. Then the small inputs of
-`linkers.py` are linked, of which docs/LINKERS.md says that linkers answer them otherwise.
+them, and links them in several ways, once by clang where it is there. PROGRAM is one or more words,
+crates/link_program/out/link_program by default. What is compared, `compare.py` says; here it is also said what has to be
+loaded, and what not. Then the small inputs of `linkers.py` are linked, of which docs/LINKERS.md says that linkers answer
+them otherwise.
 Where no compiler or no GNU ld is there, one line says so, and the status is 0. What differs ends with status 1.
 """
 import os
@@ -80,7 +81,7 @@ STATIC_LINKS = [
 TEXTS = {
     "libs.rsp": "-L. -lshapes '-lfill'\n@odd.rsp",
     "odd.rsp": "\"odd name's.o\" -Wl,-rpath-link,'a b' -Wl,--as-needed -lpicture",
-    "long.rsp": "-L. -lshapes" + "".join(f"\n-Wl,-rpath-link,/no/such/folder/of/a/name/that/is/rather/long/{number}" for number in range(35000)),
+    "long.rsp": "-L. -lshapes" + "".join(f"\n-Wl,-rpath-link,/no/such/folder/with/a/rather/long/name/{number}" for number in range(40000)),
 }
 
 

@@ -269,7 +269,7 @@ CASES = [
         "a table that a static PIE lacks",
         {"main": "def _start; ref __rela_iplt_start"},
         "-static -pie main.o",
-        {"report ld lld": "no definition of __rela_iplt_start", "mold": "loads main, __rela_iplt_start is null", "gold": "refuses"},
+        {"report ld lld": "no definition of __rela_iplt_start", "gold": "refuses", "mold": "loads main, __rela_iplt_start is null"},
         asked=["__rela_iplt_start"],
     ),
     Case(

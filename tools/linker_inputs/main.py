@@ -34,12 +34,12 @@ def words_of_compiler(words):
     which is gone as the driver ends.
     """
     words = list(expanded(words))
+    try:
+        return told_words(words)
+    except OSError as reason:
+        if reason.errno != errno.E2BIG:
+            raise Fault(" ".join(words[:1]), "can't be run") from None
     with tempfile.TemporaryDirectory() as folder:
-        try:
-            return told_words(words)
-        except OSError as reason:
-            if reason.errno != errno.E2BIG:
-                raise Fault(" ".join(words[:1]), "can't be run") from None
         return list(expanded(told_words_at_length(words, folder)))
 
 
