@@ -1,7 +1,7 @@
 #!/usr/bin/env python3
 """Links real files, and compares each report with what GNU ld says of the same link.
 
-    examples/real/check.py [PROGRAM]
+    python3 examples/real/check.py [PROGRAM]
 
 Compiles the sources of `c/` and `cxx/` with the system's compilers (`cc` and `c++`), makes archives and a shared library of
 them, and links them in several ways, once by clang where it is there. PROGRAM is one or more words,

@@ -1,7 +1,7 @@
 #!/usr/bin/env python3
 """Compares the report of a link with what GNU ld says of the same link.
 
-    examples/real/compare.py PROGRAM -- LINKER WORDS
+    python3 examples/real/compare.py PROGRAM -- LINKER WORDS
 
 Makes the manifest of the words, runs PROGRAM on it (one or more words, `link 2` comes behind them), and runs `ld` with
 the same words and with -t -t, -Map and --cref. Compared are the files that are loaded (of shared objects, those that the
