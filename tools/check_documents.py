@@ -5,8 +5,8 @@
 
 PROGRAM is the built program. Without a DOCUMENT, README.md and docs/*.md are read.
 
-An example is a code block, fenced or indented, in which a line `$ COMMAND` runs ./wolzhyke. Lines `> ..` behind it go on
-with the command, and the lines behind these, up to the next `$ ` or the end of the block, are all that it writes. A
+An example is a code block, fenced or indented, in which a line `$ COMMAND` runs ./wolzhyke. Lines `> ..` behind it go
+on with the command, and the lines behind these, up to the next `$ ` or the end of the block, are all that it writes. A
 ```json block is a manifest: it stands as manifest.json for the example that follows it. Commands run by bash in a new
 folder, where ./wolzhyke is PROGRAM and `examples` are those of the repository.
 
@@ -26,7 +26,7 @@ SECONDS = 60
 
 
 def blocks(lines):
-    """The code blocks: the word behind the fence, if any, the number of the first line inside, from 1, and the lines."""
+    """The code blocks: the word behind the fence, if any, the number of the first line inside, and the lines."""
     at = 0
     while at < len(lines):
         fence = re.match(r"( *)```(\w*)$", lines[at])
@@ -113,7 +113,8 @@ def main():
         print(__doc__.strip())
         sys.exit(0 if len(sys.argv) > 1 else 2)
     program = pathlib.Path(sys.argv[1]).resolve()
-    documents = [pathlib.Path(word) for word in sys.argv[2:]] or [TOP / "README.md", *sorted((TOP / "docs").glob("*.md"))]
+    usual = [TOP / "README.md", *sorted((TOP / "docs").glob("*.md"))]
+    documents = [pathlib.Path(word) for word in sys.argv[2:]] or usual
     run_of_all = failed = 0
     for path in documents:
         with tempfile.TemporaryDirectory() as name:
