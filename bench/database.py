@@ -3,7 +3,7 @@
 
     python3 bench/database.py [PROGRAM] [SYMBOLS..]
 
-PROGRAM is the built program, crates/link_db_cases/out/link_db_cases by default (`rt run` in its crate builds it). SYMBOLS is
+PROGRAM is the built program, crates/link_tests_db/out/link_tests_db by default (`rt run` in its crate builds it). SYMBOLS is
 how many symbols there are in all, by default 100000 and 1000000, in objects of 100. A line for each number of
 processors that the program may use, which is the number of workers too; `map` is the plain map, by one. The kinds run in turn,
 nine times, so that other work on the machine meets all alike. The figures are the least of these runs: seconds to add all, or
@@ -41,7 +41,7 @@ def least(runs):
 
 
 def main():
-    program, counts = program_and_counts("link_db_cases", [100000, 1000000])
+    program, counts = program_and_counts("link_tests_db", [100000, 1000000])
     print(f"{'symbols':>8} {'kind':>4} {'processors':>10} {'add s':>7} {'look up s':>9} {'MB held':>8} {'to map':>6}")
     tasks = [("map", 1)] + [("db", n) for n in (1, 2, 4)]
     for symbols in counts:

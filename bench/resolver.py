@@ -3,7 +3,7 @@
 
     python3 bench/resolver.py [PROGRAM] [OBJECTS..]
 
-PROGRAM is the built program, crates/link_core_tests/out/link_core_tests by default (`rt run` in its crate builds it). OBJECTS
+PROGRAM is the built program, crates/link_tests_core/out/link_tests_core by default (`rt run` in its crate builds it). OBJECTS
 is how many objects there are, by default 100001, of which all but one are members of archives, and all come to be loaded. In a
 chain each refers to the next ten; in a fan the first refers to all, and each other to ten, spread over all; in a tree each refers
 to two. A line for each number of workers, on as many processors. The kinds run in turn, nine times, so that other work on the
@@ -42,7 +42,7 @@ def run(program, kind, objects, workers):
 
 
 def main():
-    program, counts = program_and_counts("link_core_tests", [100001])
+    program, counts = program_and_counts("link_tests_core", [100001])
     print(f"{'kind':>5} {'objects':>8} {'requests':>8} {'workers':>7} {'load s':>7} {'point s':>7} {'names s':>7} {'list s':>7} "
           f"{'to one':>6} {'to names':>8}")
     tasks = [(kind, workers) for kind in ("chain", "fan", "tree") for workers in (1, 2, 4, 8)]

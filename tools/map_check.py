@@ -22,9 +22,10 @@ FENCED = re.compile(r"^```.*?^```$", re.MULTILINE | re.DOTALL)
 
 
 def crates_of(text):
-    """What each crate of a crates.txt stands on: a line is 'NAME [KEY=VALUE..]: NAME NAME'."""
+    """What each crate of a crates.txt stands on: a line is 'NAME [KEY=VALUE..]: NAME NAME', and '#' starts a comment."""
     crates = {}
     for line in text.splitlines():
+        line = line.partition("#")[0]
         if line.strip():
             name, _, others = line.partition(":")
             crates[name.split()[0]] = others.split()

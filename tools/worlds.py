@@ -1,5 +1,5 @@
 #!/usr/bin/env python3
-"""Writes theorems of link_worlds that a link of a manifest answers what is expected of it. See README.md."""
+"""Writes theorems of link_rules_worlds that a link of a manifest answers what is expected of it. See README.md."""
 import argparse
 import os
 import re
@@ -10,7 +10,7 @@ import manifests
 import terms
 
 HERE = os.path.dirname(os.path.abspath(__file__))
-CRATE = os.path.join(HERE, "..", "crates", "link_worlds")
+CRATE = os.path.join(HERE, "..", "crates", "link_rules_worlds")
 
 # each module, the file of its worlds, and its first line
 MODULES = [
@@ -107,9 +107,9 @@ WORLD_USES = [
     ("Rattle.link_rules.specs.World", ["world_of"]),
     ("Rattle.link_rules.specs.Building", ["undemangled", "copies", "entry", "null_entry", "refers", "defines", "group", "file", "object", "member",
                                           "shared", "internal", "redirect", "linker_script", "stub", "texts", "of_objects"]),
-    ("Rattle.link_worlds.specs.Computing", ["Case", "report", "refusal"]),
+    ("Rattle.link_rules_worlds.specs.Computing", ["Case", "report", "refusal"]),
 ]
-SYNTAX = "Rattle.link_syntax.specs."
+SYNTAX = "Rattle.link_script_syntax.specs."
 PROOF_USES = [
     ("Rattle.std.proofs.Common", ["refl"]),
     ("Rattle.std.specs.Str", ["is_utf8", "chars"]),
@@ -131,8 +131,8 @@ PROOF_USES = [
     (SYNTAX + "Block", ["language_at", "extern_text", "inner_extern", "block_turn", "block_at"]),
     (SYNTAX + "Skip", ["skip"]),
     (SYNTAX + "Entry", ["extern_at", "entry_at"]),
-    ("Rattle.link_worlds.specs.Computing", ["IsAnswered", "AreAnswered"]),
-    ("Rattle.link_worlds.proofs.Computed", ["answered", "also"]),
+    ("Rattle.link_rules_worlds.specs.Computing", ["IsAnswered", "AreAnswered"]),
+    ("Rattle.link_rules_worlds.proofs.Computed", ["answered", "also"]),
 ]
 
 
@@ -187,7 +187,7 @@ def modules_of(name, head, pairs):
     if len(parts) == 1:
         return {name: texts_of(name, head, [case for _, case in parts[0]] + [(list_case, list_proof)])}
     modules = {"%s%d" % (name, i + 1): part for i, part in enumerate(parts)}
-    uses = [tuple("use Rattle.link_worlds.%s.%s.{%s}\n" % (folder, module, ", ".join(world + end for world, _ in part))
+    uses = [tuple("use Rattle.link_rules_worlds.%s.%s.{%s}\n" % (folder, module, ", ".join(world + end for world, _ in part))
                   for folder, end in (("specs", ""), ("proofs", "-is"))) for module, part in modules.items()]
     texts = {module: texts_of(module, head, [case for _, case in part]) for module, part in modules.items()}
     texts[name] = texts_of(name, head, [(list_case, list_proof)], uses)
@@ -199,7 +199,7 @@ def texts_of(name, head, cases, uses=()):
     specs, proofs = ("".join(use[i] for use in uses) for i in range(2))
     case, proof = ("\n".join(texts[i] for texts in cases) for i in range(2))
     return (module(head, imports(WORLD_USES, case) + specs, case),
-            module(head, imports(PROOF_USES, proof) + proofs + "use Rattle.link_worlds.specs.%s as its\n" % name, proof))
+            module(head, imports(PROOF_USES, proof) + proofs + "use Rattle.link_rules_worlds.specs.%s as its\n" % name, proof))
 
 
 def write_all(folder):
@@ -250,7 +250,7 @@ def main():
     if options.check:
         differing = check()
         for file in differing:
-            print("crates/link_worlds/%s is not what tools/worlds.py writes" % file)
+            print("crates/link_rules_worlds/%s is not what tools/worlds.py writes" % file)
         sys.exit(1 if differing else 0)
     if options.module is None:
         write_all(options.folder)

@@ -6,11 +6,11 @@ use Rattle.std.specs.Option.{option_map_or}
 use Rattle.std.specs.List.{enumerate_from, slice_index_or}
 use Rattle.link_input.specs.ObjectFile.{ObjectFile}
 use Rattle.link_input.specs.Symbols.{Symbol}
-use Rattle.link_discarding.specs.Indexed.{AreGroupsOf}
-use Rattle.link_files.specs.GroupFiles.{symbols_in}
-use Rattle.link_files.specs.HeldFiles.{HeldFiles}
-use Rattle.link_files.specs.Inputs.{objects_in}
-use Rattle.link_comdat.specs.Selected.{SelectedGroups}
+use Rattle.link_resolve_discarded.specs.Indexed.{AreGroupsOf}
+use Rattle.link_db_files.specs.GroupFiles.{symbols_in}
+use Rattle.link_db_files.specs.HeldFiles.{HeldFiles}
+use Rattle.link_db_files.specs.Inputs.{objects_in}
+use Rattle.link_resolve_comdat.specs.Selected.{SelectedGroups}
 use Rattle.link_rules.specs.declared.linked.GivenVersion.{GivenVersion}
 use Rattle.link_rules.specs.Linked.{UndefinedName}
 use Rattle.link_rules.specs.Answer.{linked_from, missing_exports}
@@ -21,10 +21,10 @@ use Rattle.link_rules.specs.Selection.{Selection}
 use Rattle.link_rules.specs.Undefined.{Numbered, is_boundary_maker, is_last_alike, left_undefined, resolved, stays_undefined}
 use Rattle.link_rules.specs.Versions.{versions_given}
 use Rattle.link_rules.specs.World.{Stage, World}
-use Rattle.link_undefined.proofs.Numbering.{AreAt, all-at, filter-at}
+use Rattle.link_resolve_undefined.proofs.Numbering.{AreAt, all-at, filter-at}
 use Rattle.link_db.specs.Database.{Database}
 use Rattle.link_resolve.specs.Resolving.{Resolving}
-use Rattle.link_answer.specs.Parts.{answer_of, loaded_among, told_object, undefined_name}
+use Rattle.link_core_answer.specs.Parts.{answer_of, loaded_among, told_object, undefined_name}
 use Rattle.link_core.specs.Steps.{IsEndedWith, undefined_ids}
 
 -- the name of a symbol among those of all

@@ -2,9 +2,9 @@
 use Rattle.std.proofs.Common.{◌≡◌, ◌∙◌, ◌++◌, List, [], ◌∷◌, ap, length, map, refl, subst}
 use Rattle.std.specs.List.{flat_map}
 use Rattle.std.proofs.lemmas.List.{drop_at, take_at}
-use Rattle.link_files.proofs.Joining.{objects-of-batches, scripts-of-batches, stubs-of-batches}
-use Rattle.link_groups.specs.declared.group.Group.{Group}
-use Rattle.link_groups.specs.Held.{AreGroupsOf}
+use Rattle.link_db_files.proofs.Joining.{objects-of-batches, scripts-of-batches, stubs-of-batches}
+use Rattle.link_input_groups.specs.declared.group.Group.{Group}
+use Rattle.link_input_groups.specs.Held.{AreGroupsOf}
 use Rattle.link_input.specs.declared.options.Options.{Options}
 use Rattle.link_input.specs.InputFiles.{Batch}
 use Rattle.link_core.specs.declared.batch_size.BatchSize.{BatchSize}

@@ -4,8 +4,8 @@ use Rattle.std.specs.List.{flat_map}
 use Rattle.std.proofs.lemmas.List.{length-map}
 use Rattle.link_flags.specs.declared.value_flags.RawFlags.{RawFlags}
 use Rattle.link_flags.specs.FlagWords.{numbers_of}
-use Rattle.link_files.specs.Inputs.{objects_in}
-use Rattle.link_groups.specs.Held.{AreGroupsOf}
+use Rattle.link_db_files.specs.Inputs.{objects_in}
+use Rattle.link_input_groups.specs.Held.{AreGroupsOf}
 use Rattle.link_input.specs.declared.options.Options.{Options}
 use Rattle.link_input.specs.declared.world.Scripts.{Scripts}
 use Rattle.link_input.specs.declared.world.Inputs.{Inputs}

@@ -11,11 +11,11 @@ use Rattle.link_input.specs.InputFiles.{Batch, input_files}
 use Rattle.link_input.specs.Limits.{Counts, counts_of, first_excess}
 use Rattle.link_input.specs.ObjectFile.{ObjectFile}
 use Rattle.link_input.specs.Symbols.{Symbol, symbols_of}
-use Rattle.link_groups.specs.declared.group.Group.{Group}
-use Rattle.link_groups.specs.Held.{AreGroupsOf}
-use Rattle.link_files.proofs.Joining.{objects-of-batches, symbols-of-batches}
-use Rattle.link_files.specs.GroupFiles.{symbols_in}
-use Rattle.link_files.specs.Inputs.{objects_in}
+use Rattle.link_input_groups.specs.declared.group.Group.{Group}
+use Rattle.link_input_groups.specs.Held.{AreGroupsOf}
+use Rattle.link_db_files.proofs.Joining.{objects-of-batches, symbols-of-batches}
+use Rattle.link_db_files.specs.GroupFiles.{symbols_in}
+use Rattle.link_db_files.specs.Inputs.{objects_in}
 use Rattle.link_flags.specs.declared.value_flags.RawFlags.{RawFlags}
 use Rattle.link_flags.specs.FlagWords.{numbers_of}
 use Rattle.link_rules.specs.declared.refusal.LinkError.{LinkError}
@@ -27,17 +27,17 @@ use Rattle.link_rules.specs.Places.{Bytes, each_from, is_empty}
 use Rattle.link_rules.specs.Refusals.{counts_at, first_cause, linker_script_cause, too_many}
 use Rattle.link_rules.specs.Rules.{PlatformRules, rules_of, taken_text}
 use Rattle.link_rules.specs.World.{Stage, World, nothing_earlier, with_batch}
-use Rattle.link_loader.specs.Holds.{HoldsTexts}
-use Rattle.link_loader.specs.ReadTexts.{ReadTexts}
-use Rattle.link_mapping.specs.Mapped.{AreListed, mapping_of}
+use Rattle.link_db_texts.specs.Holds.{HoldsTexts}
+use Rattle.link_db_texts.specs.ReadTexts.{ReadTexts}
+use Rattle.link_db_mapping.specs.Mapped.{AreListed, mapping_of}
 use Rattle.link_db.proofs.Causes.{late-batches}
 use Rattle.link_db.specs.Adding.{HaveOpeningFlags, IsGrown, inputs_cause}
 use Rattle.link_db.specs.Database.{Database, HasTable, symbol_names}
 use Rattle.link_db.specs.Overrides.{IsMappedAnew}
 use Rattle.link_resolve.proofs.Settling.{count-symbols}
 use Rattle.link_resolve.specs.Known.{Known}
-use Rattle.link_stage.proofs.Mappings.{comes-to}
-use Rattle.link_stage.specs.AtStage.{HasBatches, IsAtStage}
+use Rattle.link_db_stage.proofs.Mappings.{comes-to}
+use Rattle.link_db_stage.specs.AtStage.{HasBatches, IsAtStage}
 use Rattle.link_core.specs.Steps.{HasFilesOf, HasRoom, IsBefore, IsReady, first_scripts, inputs_refusal}
 
 -- with a batch more a stage has the files of one batch more

@@ -11,13 +11,13 @@ use Rattle.link_input.specs.declared.world.Scripts.{Scripts}
 use Rattle.link_input.specs.InputFiles.{Batch}
 use Rattle.link_input.specs.Symbols.{Symbol}
 use Rattle.link_flags.specs.declared.value_flags.RawFlags.{RawFlags}
-use Rattle.link_discarding.proofs.Newly.{regular-more}
-use Rattle.link_discarding.specs.Checked.{WereGroupsFine}
-use Rattle.link_discarding.specs.Indexed.{AreGroupsOf}
-use Rattle.link_files.specs.GroupFiles.{symbols_in}
-use Rattle.link_files.specs.HeldFiles.{names_in}
-use Rattle.link_files.specs.Inputs.{objects_in}
-use Rattle.link_groups.specs.Held as held
+use Rattle.link_resolve_discarded.proofs.Newly.{regular-more}
+use Rattle.link_resolve_discarded.specs.Checked.{WereGroupsFine}
+use Rattle.link_resolve_discarded.specs.Indexed.{AreGroupsOf}
+use Rattle.link_db_files.specs.GroupFiles.{symbols_in}
+use Rattle.link_db_files.specs.HeldFiles.{names_in}
+use Rattle.link_db_files.specs.Inputs.{objects_in}
+use Rattle.link_input_groups.specs.Held as held
 use Rattle.link_rules.specs.declared.refusal.LinkError.{LinkError}
 use Rattle.link_rules.specs.declared.refusal.LinkError.TheVariants.{Memory}
 use Rattle.link_rules.specs.Answer.{BatchesEnd, EndsWith, IsRefused}
@@ -35,11 +35,11 @@ use Rattle.link_rules.specs.Visibility.{narrowed_symbol}
 use Rattle.link_rules.specs.World.{Earlier, Stage, World, start_of, with_batch}
 use Rattle.link_rules.proofs.Files.{starts}
 use Rattle.link_rules.proofs.Stages.{orderly-grows, orderly-start, orderly-stays}
-use Rattle.link_loader.specs.Causes.{TellsCause}
-use Rattle.link_loader.specs.Holds.{AreRulesOf, HoldsTexts}
-use Rattle.link_loader.specs.ReadTexts.{ReadTexts}
-use Rattle.link_mapping.specs.Mapped.{AreListed, Mapped}
-use Rattle.link_symbols.specs.Lookups.{AreBelow}
+use Rattle.link_db_texts.specs.Causes.{TellsCause}
+use Rattle.link_db_texts.specs.Holds.{AreRulesOf, HoldsTexts}
+use Rattle.link_db_texts.specs.ReadTexts.{ReadTexts}
+use Rattle.link_db_mapping.specs.Mapped.{AreListed, Mapped}
+use Rattle.link_db_symbols.specs.Lookups.{AreBelow}
 use Rattle.link_db.specs.Database.{Database, HasTable, no_names, symbol_names}
 use Rattle.link_resolve.specs.Known.{IsLoadedSelection, IsSelection, Known}
 use Rattle.link_resolve.specs.Resolving.{IsNextStage, Resolving, loading_cause, nothing_known, with_groups}

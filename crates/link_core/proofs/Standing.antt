@@ -4,7 +4,7 @@ use Rattle.std.specs.Prelude.{IfErr, IfSome}
 use Rattle.std.specs.Result.{IsErrAnd}
 use Rattle.link_flags.specs.declared.value_flags.RawFlags.{RawFlags}
 use Rattle.link_flags.specs.FlagWords.{numbers_of}
-use Rattle.link_groups.specs.Held.{AreGroupsOf}
+use Rattle.link_input_groups.specs.Held.{AreGroupsOf}
 use Rattle.link_input.specs.declared.options.Options.{Options}
 use Rattle.link_input.specs.declared.world.Scripts.{Scripts}
 use Rattle.link_input.specs.InputFiles.{Batch}

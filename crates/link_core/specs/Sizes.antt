@@ -4,8 +4,8 @@ use Rattle.link_input.specs.declared.world.ProcessedLinkerScript.{ProcessedLinke
 use Rattle.link_input.specs.declared.world.StubLibrary.{StubLibrary}
 use Rattle.link_input.specs.InputFiles.{Batch}
 use Rattle.link_input.specs.ObjectFile.{ObjectFile}
-use Rattle.link_files.specs.Inputs.{objects_in, scripts_in, stubs_in}
-use Rattle.link_groups.specs.declared.group.Group.{Group}
+use Rattle.link_db_files.specs.Inputs.{objects_in, scripts_in, stubs_in}
+use Rattle.link_input_groups.specs.declared.group.Group.{Group}
 use Rattle.link_core.specs.declared.batch_size.BatchSize.{BatchSize}
 
 -- how many files of each kind a batch has

@@ -3,11 +3,11 @@ use Rattle.std.specs.Prelude.{ℕ, ◌≡◌, ◌⊎◌, ◌+◌, ◌*◌, ◌<�
 use Rattle.std.specs.List.{flat_map}
 use Rattle.link_flags.specs.declared.value_flags.RawFlags.{RawFlags}
 use Rattle.link_flags.specs.FlagWords.{numbers_of}
-use Rattle.link_discarding.specs.Checked.{WereGroupsFine}
-use Rattle.link_discarding.specs.Indexed.{AreGroupsOf}
-use Rattle.link_files.specs.GroupFiles.{symbols_in}
-use Rattle.link_files.specs.Inputs.{objects_in}
-use Rattle.link_groups.specs.Held as held
+use Rattle.link_resolve_discarded.specs.Checked.{WereGroupsFine}
+use Rattle.link_resolve_discarded.specs.Indexed.{AreGroupsOf}
+use Rattle.link_db_files.specs.GroupFiles.{symbols_in}
+use Rattle.link_db_files.specs.Inputs.{objects_in}
+use Rattle.link_input_groups.specs.Held as held
 use Rattle.link_input.specs.declared.options.Options.{Options}
 use Rattle.link_input.specs.declared.world.ProcessedLinkerScript.{ProcessedLinkerScript}
 use Rattle.link_input.specs.declared.world.Scripts.{Scripts}
@@ -28,11 +28,11 @@ use Rattle.link_rules.specs.Selection.{Selection, selection_of}
 use Rattle.link_rules.specs.Undefined.{boundary_makers, is_boundary_maker, is_last_alike, left_undefined, resolved}
 use Rattle.link_rules.specs.Visibility.{narrowed_symbol}
 use Rattle.link_rules.specs.World.{Earlier, Stage, World, start_of, with_batch, world_of}
-use Rattle.link_loader.specs.Holds.{AreRulesOf, HoldsTexts}
-use Rattle.link_mapping.specs.Mapped.{AreListed}
-use Rattle.link_symbols.specs.Lookups.{AreBelow}
+use Rattle.link_db_texts.specs.Holds.{AreRulesOf, HoldsTexts}
+use Rattle.link_db_mapping.specs.Mapped.{AreListed}
+use Rattle.link_db_symbols.specs.Lookups.{AreBelow}
 use Rattle.link_db.specs.Database.{Database, HasTable, symbol_names}
-use Rattle.link_stage.specs.AtStage.{IsAtStage}
+use Rattle.link_db_stage.specs.AtStage.{IsAtStage}
 use Rattle.link_resolve.specs.Known.{IsListed, IsLoadedSelection, IsSelection, Known}
 use Rattle.link_resolve.specs.Resolving.{Resolving, nothing_known}
 use Rattle.link_resolve.specs.Settled.{IsEnded, IsSettled}

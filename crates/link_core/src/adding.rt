@@ -1,13 +1,13 @@
 //! The files of a batch come into the database of a link.
 
 ghost use Rattle.std.specs.Prelude.{◌≡◌, ◌<◌, ◌≤◌, ◌++◌, ◌∷◌, [], List, OnOk, length, not};
-ghost use Rattle.link_files.specs.Inputs.{objects_in};
+ghost use Rattle.link_db_files.specs.Inputs.{objects_in};
 ghost use Rattle.link_flags.specs.FlagWords.{numbers_of, words_of};
-ghost use Rattle.link_groups.specs.Held.{AreGroupsOf};
+ghost use Rattle.link_input_groups.specs.Held.{AreGroupsOf};
 ghost use Rattle.link_input.specs.InputFiles.{Batch, batch_of};
 ghost use Rattle.link_input.specs.Limits.{batch_limit};
-ghost use Rattle.link_loader.specs.Causes.{TellsCause};
-ghost use Rattle.link_loader.specs.Holds.{platform_of};
+ghost use Rattle.link_db_texts.specs.Causes.{TellsCause};
+ghost use Rattle.link_db_texts.specs.Holds.{platform_of};
 ghost use Rattle.link_rules.specs.Places.{is_empty};
 ghost use Rattle.link_rules.specs.World.{Stage, World, with_batch};
 ghost use Rattle.link_db.specs.Database.{HasTable, symbol_names};

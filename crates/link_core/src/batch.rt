@@ -1,12 +1,12 @@
 //! A batch of a link: its files are added, and the objects that count are loaded.
 
 ghost use Rattle.std.specs.Prelude.{◌≡◌, ◌⊎◌, ◌<◌, ◌≤◌, ◌++◌, ◌∷◌, [], List, Err, IfErr, OnOk, length};
-ghost use Rattle.link_files.specs.Inputs.{objects_in};
+ghost use Rattle.link_db_files.specs.Inputs.{objects_in};
 ghost use Rattle.link_flags.specs.FlagWords.{numbers_of, words_of};
-ghost use Rattle.link_groups.specs.Held.{AreGroupsOf};
+ghost use Rattle.link_input_groups.specs.Held.{AreGroupsOf};
 ghost use Rattle.link_input.specs.InputFiles.{Batch, batch_of};
 ghost use Rattle.link_input.specs.Limits.{batch_limit};
-ghost use Rattle.link_loader.specs.Holds.{platform_of};
+ghost use Rattle.link_db_texts.specs.Holds.{platform_of};
 ghost use Rattle.link_rules.specs.declared.refusal.LinkError.TheVariants.{Memory};
 ghost use Rattle.link_rules.specs.Answer.{BatchesEnd};
 ghost use Rattle.link_rules.specs.Selection.{Selection};

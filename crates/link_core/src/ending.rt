@@ -1,10 +1,10 @@
 //! What is told at the end of a link.
 
 ghost use Rattle.std.specs.Prelude.{◌≡◌, ◌<◌, ◌++◌, [], ◌∷◌, All, IfErr, IfOk, OnOk, filter, is_none, length, if◌then◌else◌};
-ghost use Rattle.link_files.specs.Inputs.{objects_in};
+ghost use Rattle.link_db_files.specs.Inputs.{objects_in};
 ghost use Rattle.link_flags.specs.FlagWords.{numbers_of, words_of};
-ghost use Rattle.link_loader.specs.Holds.{AreRulesOf, platform_of};
-ghost use Rattle.link_mapping.specs.Mapped.{mapping_of};
+ghost use Rattle.link_db_texts.specs.Holds.{AreRulesOf, platform_of};
+ghost use Rattle.link_db_mapping.specs.Mapped.{mapping_of};
 ghost use Rattle.link_rules.specs.Answer.{IsLinked};
 ghost use Rattle.link_rules.specs.Places.{Bytes};
 ghost use Rattle.link_rules.specs.Rules.{Rules};
@@ -12,12 +12,12 @@ ghost use Rattle.link_rules.specs.Selection.{Selection};
 ghost use Rattle.link_rules.specs.World.{World};
 ghost use Rattle.link_db.specs.Database.{HasTable, symbol_names};
 ghost use Rattle.link_db.specs.Seen.{seen};
-ghost use Rattle.link_answer.specs.Parts.{answer_of};
-ghost use Rattle.link_answer.specs.Seen as answer;
+ghost use Rattle.link_core_answer.specs.Parts.{answer_of};
+ghost use Rattle.link_core_answer.specs.Seen as answer;
 ghost use Rattle.link_rules.specs.Undefined.{resolved};
 ghost use Rattle.link_core.specs.Steps.{HasRoom, IsEndedWith, IsRefusedWith, IsSettledWith, undefined_ids};
 
-use link_answer::Linked;
+use link_core_answer::Linked;
 use link_db::SymbolDb;
 use link_flags::PerSymbolFlags;
 use link_ids::SymbolId;

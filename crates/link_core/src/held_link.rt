@@ -3,12 +3,12 @@
 ghost use Rattle.std.specs.Prelude.{◌≡◌, ◌≢◌, ◌<◌, Err, IfErr, IfOk, IfSome, filter, length, option_and_then, slice_get};
 ghost use Rattle.std.specs.List.{flat_map};
 ghost use Rattle.link_closure.specs.Closure.{is_marked};
-ghost use Rattle.link_answer.specs.Parts.{answer_of};
-ghost use Rattle.link_answer.specs.Seen as answer;
+ghost use Rattle.link_core_answer.specs.Parts.{answer_of};
+ghost use Rattle.link_core_answer.specs.Seen as answer;
 ghost use Rattle.link_input.specs.InputFiles.{batch_of};
 ghost use Rattle.link_input.specs.Limits.{batch_limit};
 ghost use Rattle.link_input.specs.Symbols.{object_in};
-ghost use Rattle.link_loader.specs.Holds.{platform_of};
+ghost use Rattle.link_db_texts.specs.Holds.{platform_of};
 ghost use Rattle.link_rules.specs.Answer.{BatchesEnd, IsLinked, IsRefused};
 ghost use Rattle.link_rules.specs.Names.{first_definition};
 ghost use Rattle.link_rules.specs.Selection.{Selection};
@@ -20,8 +20,8 @@ ghost use Rattle.link_core.specs.Steps.{Selects};
 use crate::link::finish_link;
 use crate::session_error::SessionError;
 use crate::standing_link::{StandingLink, link_next};
-use link_answer::Linked;
 use link_claim::Gate;
+use link_core_answer::Linked;
 use link_ids::SymbolId;
 use link_input::{Inputs, Platform};
 use link_script::Demangler;
@@ -50,7 +50,7 @@ impl<P: Platform, D: Demangler + Drop> Drop for HeldLink<P, D> {
 impl<P: Platform, D: Demangler + Drop> Model for HeldLink<P, D> {
     ghost use Rattle.link_db.specs.Seen.{seen};
     ghost use Rattle.link_flags.specs.FlagWords.{words_of};
-    ghost use Rattle.link_loader.specs.Holds.{platform_of};
+    ghost use Rattle.link_db_texts.specs.Holds.{platform_of};
     ghost use Rattle.link_core.specs.Sessions.{Held};
     ghost use Rattle.link_core.specs.Sizes.{batches_in};
     ghost use Rattle.link_core.specs.Standing.{IsStanding};

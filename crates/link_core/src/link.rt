@@ -2,18 +2,18 @@
 
 ghost use Rattle.std.specs.Prelude.{◌≡◌, ◌⊎◌, ◌≤◌, ◌∷◌, List, IfErr, IfOk, length, map};
 ghost use Rattle.std.specs.List.{flat_map};
-ghost use Rattle.link_files.specs.Inputs.{objects_in};
+ghost use Rattle.link_db_files.specs.Inputs.{objects_in};
 ghost use Rattle.link_flags.specs.FlagWords.{numbers_of, words_of};
 ghost use Rattle.link_input.specs.InputFiles.{Batch, batch_of};
 ghost use Rattle.link_input.specs.Limits.{batch_limit};
-ghost use Rattle.link_loader.specs.Holds.{platform_of};
+ghost use Rattle.link_db_texts.specs.Holds.{platform_of};
 ghost use Rattle.link_rules.specs.declared.refusal.LinkError.TheVariants.{Memory};
 ghost use Rattle.link_rules.specs.Answer.{IsLinked, IsRefused};
 ghost use Rattle.link_rules.specs.Selection.{Selection};
 ghost use Rattle.link_rules.specs.World.{World, world_of};
 ghost use Rattle.link_db.specs.Seen.{seen};
-ghost use Rattle.link_answer.specs.Parts.{answer_of};
-ghost use Rattle.link_answer.specs.Seen as answer;
+ghost use Rattle.link_core_answer.specs.Parts.{answer_of};
+ghost use Rattle.link_core_answer.specs.Seen as answer;
 ghost use Rattle.link_core.specs.Given.{given_by, given_in_batches};
 ghost use Rattle.link_core.specs.Steps.{HasRoom, IsLoadedWith, IsRefusedWith, IsSteady};
 
@@ -22,8 +22,8 @@ use crate::ending::end_link;
 use crate::opening::{OpenLink, open_link};
 use crate::pointing::point_symbols;
 use crate::settling::settle_rivals;
-use link_answer::Linked;
 use link_claim::Gate;
+use link_core_answer::Linked;
 use link_input::{Inputs, Options, Platform, Scripts};
 use link_rules::LinkError;
 use link_script::Demangler;

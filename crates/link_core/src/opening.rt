@@ -2,8 +2,8 @@
 
 ghost use Rattle.std.specs.Prelude.{◌≤◌, [], IfOk};
 ghost use Rattle.link_flags.specs.FlagWords.{words_of};
-ghost use Rattle.link_loader.specs.Causes.{IsGiven, TellsCause};
-ghost use Rattle.link_loader.specs.Holds.{platform_of};
+ghost use Rattle.link_db_texts.specs.Causes.{IsGiven, TellsCause};
+ghost use Rattle.link_db_texts.specs.Holds.{platform_of};
 ghost use Rattle.link_rules.specs.Places.{Bytes};
 ghost use Rattle.link_rules.specs.Refusals.{text_refusal};
 ghost use Rattle.link_rules.specs.World.{World};

@@ -1,9 +1,9 @@
 //! Behind the last batch of a link: what each symbol points to.
 
 ghost use Rattle.std.specs.Prelude.{◌≡◌, IfErr, OnOk, length};
-ghost use Rattle.link_files.specs.GroupFiles.{symbols_in};
+ghost use Rattle.link_db_files.specs.GroupFiles.{symbols_in};
 ghost use Rattle.link_flags.specs.FlagWords.{numbers_of, words_of};
-ghost use Rattle.link_loader.specs.Holds.{platform_of};
+ghost use Rattle.link_db_texts.specs.Holds.{platform_of};
 ghost use Rattle.link_rules.specs.declared.refusal.LinkError.TheVariants.{Memory};
 ghost use Rattle.link_rules.specs.Places.{Bytes};
 ghost use Rattle.link_rules.specs.Selection.{Selection};

@@ -2,13 +2,13 @@
 
 ghost use Rattle.std.specs.Prelude.{◌≡◌, ◌⊎◌, ◌≤◌, ◌<◌, [], Err, IfErr, IfOk, IfSome, None, OnErr, OnOk, Some, filter, is_none, length, option_and_then, option_map, slice_get};
 ghost use Rattle.link_closure.specs.Closure.{is_marked};
-ghost use Rattle.link_answer.specs.Parts.{answer_of};
-ghost use Rattle.link_answer.specs.Seen as answer;
+ghost use Rattle.link_core_answer.specs.Parts.{answer_of};
+ghost use Rattle.link_core_answer.specs.Seen as answer;
 ghost use Rattle.link_input.specs.InputFiles.{batch_of};
 ghost use Rattle.link_input.specs.Limits.{batch_limit};
 ghost use Rattle.link_input.specs.Symbols.{object_in};
-ghost use Rattle.link_loader.specs.Causes.{IsGiven};
-ghost use Rattle.link_loader.specs.Holds.{platform_of};
+ghost use Rattle.link_db_texts.specs.Causes.{IsGiven};
+ghost use Rattle.link_db_texts.specs.Holds.{platform_of};
 ghost use Rattle.link_rules.specs.Answer.{BatchesEnd, IsLinked, IsRefused};
 ghost use Rattle.link_rules.specs.Names.{first_definition};
 ghost use Rattle.link_rules.specs.Refusals.{text_refusal};
@@ -23,8 +23,8 @@ use crate::held_link::HeldLink;
 use crate::opening::open_link;
 use crate::session_error::SessionError;
 use crate::standing_link::StandingLink;
-use link_answer::Linked;
 use link_claim::Gate;
+use link_core_answer::Linked;
 use link_ids::SymbolId;
 use link_input::{Inputs, Options, Platform, Scripts};
 use link_script::Demangler;

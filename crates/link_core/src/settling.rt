@@ -1,9 +1,9 @@
 //! The rivals of a link are settled.
 
 ghost use Rattle.std.specs.Prelude.{◌≡◌, [], IfErr, IfOk, length};
-ghost use Rattle.link_files.specs.GroupFiles.{symbols_in};
+ghost use Rattle.link_db_files.specs.GroupFiles.{symbols_in};
 ghost use Rattle.link_flags.specs.FlagWords.{numbers_of, words_of};
-ghost use Rattle.link_loader.specs.Holds.{platform_of};
+ghost use Rattle.link_db_texts.specs.Holds.{platform_of};
 ghost use Rattle.link_rules.specs.Places.{Bytes};
 ghost use Rattle.link_rules.specs.Selection.{Selection};
 ghost use Rattle.link_rules.specs.World.{World};

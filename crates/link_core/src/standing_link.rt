@@ -4,7 +4,7 @@ ghost use Rattle.std.specs.Prelude.{◌≡◌, ◌≢◌, ◌<◌, ◌++◌, ◌
 ghost use Rattle.link_flags.specs.FlagWords.{words_of};
 ghost use Rattle.link_input.specs.InputFiles.{batch_of};
 ghost use Rattle.link_input.specs.Limits.{batch_limit};
-ghost use Rattle.link_loader.specs.Holds.{platform_of};
+ghost use Rattle.link_db_texts.specs.Holds.{platform_of};
 ghost use Rattle.link_rules.specs.Answer.{BatchesEnd};
 ghost use Rattle.link_db.specs.Seen.{seen};
 ghost use Rattle.link_core.specs.declared.session_error.SessionError.TheVariants.{Ended};

@@ -7,22 +7,22 @@ use Rattle.link_flags.specs.declared.value_flags.RawFlags.{RawFlags}
 use Rattle.link_input.specs.InputFiles.{Batch}
 use Rattle.link_input.specs.SequencedFiles.{SequencedFile}
 use Rattle.link_input.specs.Symbols.{Symbol, symbols_of}
-use Rattle.link_groups.specs.declared.group.Group.{Group}
-use Rattle.link_groups.specs.Asked.{AllCanBeAsked}
-use Rattle.link_groups.specs.Groups.{files_of}
-use Rattle.link_groups.specs.Held.{AreGroupsOf}
-use Rattle.link_files.specs.GroupFiles.{AreGroupsOfLink, symbols_in}
-use Rattle.link_files.specs.HeldFiles.{HeldFiles, names_in}
-use Rattle.link_files.specs.Inputs.{objects_in}
-use Rattle.link_files.proofs.Batches.{of-link}
-use Rattle.link_files.proofs.Joining.{symbols-join}
-use Rattle.link_files.proofs.Numbered.{tabled-count}
+use Rattle.link_input_groups.specs.declared.group.Group.{Group}
+use Rattle.link_input_groups.specs.Asked.{AllCanBeAsked}
+use Rattle.link_input_groups.specs.Groups.{files_of}
+use Rattle.link_input_groups.specs.Held.{AreGroupsOf}
+use Rattle.link_db_files.specs.GroupFiles.{AreGroupsOfLink, symbols_in}
+use Rattle.link_db_files.specs.HeldFiles.{HeldFiles, names_in}
+use Rattle.link_db_files.specs.Inputs.{objects_in}
+use Rattle.link_db_files.proofs.Batches.{of-link}
+use Rattle.link_db_files.proofs.Joining.{symbols-join}
+use Rattle.link_db_files.proofs.Numbered.{tabled-count}
 use Rattle.link_rules.specs.Opening.{opening_flags}
 use Rattle.link_rules.specs.World.{Stage}
-use Rattle.link_mapping.specs.Batches.{symbols_behind}
-use Rattle.link_reading.specs.Files.{AllCanBeRead, file_flags}
-use Rattle.link_reading.proofs.Parts.{all_can_be_read}
-use Rattle.link_reading.proofs.Runs.{all-flags}
+use Rattle.link_db_mapping.specs.Batches.{symbols_behind}
+use Rattle.link_db_ingest.specs.Files.{AllCanBeRead, file_flags}
+use Rattle.link_db_ingest.proofs.Parts.{all_can_be_read}
+use Rattle.link_db_ingest.proofs.Runs.{all-flags}
 use Rattle.link_flags.specs.FlagWords.{numbers_of}
 use Rattle.link_db.proofs.GroupCounts.{asked-count}
 

@@ -7,14 +7,14 @@ use Rattle.std.specs.Option.{option_or}
 use Rattle.link_input.specs.declared.options.Options.{Options}
 use Rattle.link_input.specs.declared.world.ProcessedLinkerScript.{ProcessedLinkerScript}
 use Rattle.link_input.specs.InputFiles.{Batch}
-use Rattle.link_groups.specs.declared.group.Group.{Group}
-use Rattle.link_groups.specs.Held.{AreGroupsOf}
-use Rattle.link_files.specs.Inputs.{scripts_in}
-use Rattle.link_files.proofs.Joining.{scripts-of-batches}
+use Rattle.link_input_groups.specs.declared.group.Group.{Group}
+use Rattle.link_input_groups.specs.Held.{AreGroupsOf}
+use Rattle.link_db_files.specs.Inputs.{scripts_in}
+use Rattle.link_db_files.proofs.Joining.{scripts-of-batches}
 use Rattle.link_rules.specs.declared.refusal.LinkError.{LinkError}
 use Rattle.link_rules.specs.Places.{is_empty}
 use Rattle.link_rules.specs.Refusals.{linker_script_cause}
-use Rattle.link_loader.specs.Causes.{TellsCause}
+use Rattle.link_db_texts.specs.Causes.{TellsCause}
 
 -- a call that tells the first of two causes tells the first cause
 pub tells-first : (A B : Type 0) (first other : Option LinkError) (e : LinkError) → TellsCause {A = A} first (Err e) → TellsCause {A = B} (option_or first other) (Err e)

@@ -3,7 +3,7 @@ use Rattle.std.proofs.Common.{◌≡◌, ℕ, List, ◌∷◌, map, Option, Some
 use Rattle.std.specs.Prelude.{filter_map}
 use Rattle.std.specs.List.{cons_option}
 use Rattle.std.specs.Option.{option_to_list}
-use Rattle.link_mapping.specs.Mapped.{mapping_of}
+use Rattle.link_db_mapping.specs.Mapped.{mapping_of}
 use Rattle.link_rules.specs.Places.{Bytes, each_from}
 use Rattle.link_rules.specs.Rivals.{two_steps}
 use Rattle.link_db.specs.Database.{Database}

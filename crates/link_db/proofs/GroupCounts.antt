@@ -6,16 +6,16 @@ use Rattle.link_flags.specs.declared.value_flags.ValueFlags.{ValueFlags}
 use Rattle.link_ids.specs.Span.{Span}
 use Rattle.link_input.specs.SequencedFiles.{SequencedFile}
 use Rattle.link_input.specs.Symbols.{symbols_of}
-use Rattle.link_groups.specs.declared.group.Group.{Group}
-use Rattle.link_groups.specs.declared.group.Group.TheVariants as group
-use Rattle.link_groups.specs.Asked.{AllCanBeAsked, HasIdsForAll}
-use Rattle.link_groups.specs.Groups.{files_of, length_of_spans, object_file, script_file, stub_file, symbol_spans}
-use Rattle.link_files.specs.GroupFiles.{symbols_in}
-use Rattle.link_files.specs.Numbered.{spans_of}
-use Rattle.link_files.proofs.Numbered.{id_count, id-count-append, tabled-count}
-use Rattle.link_reading.specs.declared.read_symbols.ReadSymbols.{ReadSymbols}
-use Rattle.link_reading.specs.Files as read
-use Rattle.link_reading.specs.Parts.{HasAllFlags}
+use Rattle.link_input_groups.specs.declared.group.Group.{Group}
+use Rattle.link_input_groups.specs.declared.group.Group.TheVariants as group
+use Rattle.link_input_groups.specs.Asked.{AllCanBeAsked, HasIdsForAll}
+use Rattle.link_input_groups.specs.Groups.{files_of, length_of_spans, object_file, script_file, stub_file, symbol_spans}
+use Rattle.link_db_files.specs.GroupFiles.{symbols_in}
+use Rattle.link_db_files.specs.Numbered.{spans_of}
+use Rattle.link_db_files.proofs.Numbered.{id_count, id-count-append, tabled-count}
+use Rattle.link_db_ingest.specs.declared.read_symbols.ReadSymbols.{ReadSymbols}
+use Rattle.link_db_ingest.specs.Files as read
+use Rattle.link_db_ingest.specs.Parts.{HasAllFlags}
 use Rattle.link_db.specs.Adding.{flags_in}
 
 -- the ids of files that are all of a kind

@@ -6,11 +6,11 @@ use Rattle.std.proofs.lemmas.List.{append-nil}
 use Rattle.std.proofs.lemmas.List.Elements.{filter_map-append}
 use Rattle.link_input.specs.declared.world.ProcessedLinkerScript.{ProcessedLinkerScript}
 use Rattle.link_input.specs.SequencedFiles.{SequencedFile}
-use Rattle.link_groups.specs.declared.group.Group.{Group}
-use Rattle.link_groups.specs.declared.group.Group.TheVariants as group
-use Rattle.link_groups.specs.declared.sequenced.SequencedLinkerScript.{SequencedLinkerScript}
-use Rattle.link_groups.specs.Groups.{files_of}
-use Rattle.link_files.specs.Inputs.{script_of, scripts_in}
+use Rattle.link_input_groups.specs.declared.group.Group.{Group}
+use Rattle.link_input_groups.specs.declared.group.Group.TheVariants as group
+use Rattle.link_input_groups.specs.declared.sequenced.SequencedLinkerScript.{SequencedLinkerScript}
+use Rattle.link_input_groups.specs.Groups.{files_of}
+use Rattle.link_db_files.specs.Inputs.{script_of, scripts_in}
 use Rattle.link_rules.specs.Places.{last_of}
 
 -- where there is a last one, it does not matter what else there would be

@@ -1,12 +1,12 @@
 -- Groups without symbols of files.
 use Rattle.std.specs.Prelude.{OnOk, OnErr}
 use Rattle.std.proofs.Common.{Result, Ok, Err, ◌≡◌, ◌<◌, ◌∙◌, ℕ, List, All, refl, sym, ap, subst, length}
-use Rattle.link_groups.specs.declared.group.Group.{Group}
-use Rattle.link_files.specs.Adding.{CanFollow, synthetic_group}
-use Rattle.link_files.specs.HeldFiles.{HeldFiles, names_in}
-use Rattle.link_files.proofs.Growing.{names-more}
-use Rattle.link_mapping.specs.Changes.{with_group}
-use Rattle.link_mapping.specs.Mapped.{Mapped}
+use Rattle.link_input_groups.specs.declared.group.Group.{Group}
+use Rattle.link_db_files.specs.Adding.{CanFollow, synthetic_group}
+use Rattle.link_db_files.specs.HeldFiles.{HeldFiles, names_in}
+use Rattle.link_db_files.proofs.Growing.{names-more}
+use Rattle.link_db_mapping.specs.Changes.{with_group}
+use Rattle.link_db_mapping.specs.Mapped.{Mapped}
 use Rattle.link_db.specs.Database.{Database, IsSound, symbol_names}
 
 -- the group of symbols that the linker makes can follow

@@ -6,9 +6,9 @@ use Rattle.link_flags.specs.declared.strength.SymbolStrength.TheVariants.{Undefi
 use Rattle.link_flags.specs.Pick.{Candidate, common_of, first_strong, first_weak, is_largest, is_strong, is_weak, largest_common, pick}
 use Rattle.link_rules.specs.Places.{Bytes}
 use Rattle.link_rules.specs.Targets.{mapped_in}
-use Rattle.link_mapping.specs.Mapped.{mapped_key}
+use Rattle.link_db_mapping.specs.Mapped.{mapped_key}
 use Rattle.std.proofs.lemmas.List.Elements.{All-head, All-tail}
-use Rattle.link_files.specs.HeldFiles.{HeldFiles, is_shared_in, strength_of}
+use Rattle.link_db_files.specs.HeldFiles.{HeldFiles, is_shared_in, strength_of}
 use Rattle.link_db.specs.Database.{Database, name_table_of}
 use Rattle.link_db.specs.Unshared.{unshared}
 

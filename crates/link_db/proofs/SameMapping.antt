@@ -3,7 +3,7 @@ use Rattle.std.proofs.Common.{◌≡◌, ◌+◌, ◌<◌, ◌++◌, ◌∙◌, 
 use Rattle.std.specs.Prelude.{fold}
 use Rattle.std.proofs.lemmas.List.{take_more}
 use Rattle.std.proofs.lemmas.List.Sums.{fold-append}
-use Rattle.link_mapping.specs.Mapped.{Mapped}
+use Rattle.link_db_mapping.specs.Mapped.{Mapped}
 
 -- mappings with the same files, lists and overrides
 pub same-mapped : {P : Type 0} (a b : Mapped P) → a.files ≡ b.files → a.lists ≡ b.lists → a.overridden ≡ b.overridden → a ≡ b

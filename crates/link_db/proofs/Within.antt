@@ -3,17 +3,17 @@ use Rattle.std.proofs.Common.{◌≡◌, ◌∙◌, ◌<◌, ℕ, Bool, true, fa
 use Rattle.std.specs.Prelude.{IfSome, not, ◌||◌, slice_get}
 use Rattle.std.specs.Option.{option_and_then, option_map_or}
 use Rattle.std.proofs.lemmas.List.Elements.{All-nil}
-use Rattle.link_buckets.specs.Keys.{Key}
-use Rattle.link_files.specs.HeldFiles.{names_in}
+use Rattle.link_db_buckets.specs.Keys.{Key}
+use Rattle.link_db_files.specs.HeldFiles.{names_in}
 use Rattle.link_flags.specs.Pick.{pick}
 use Rattle.link_input.specs.declared.platform.Platform.{Ghosts}
 use Rattle.link_rules.specs.Places.{Bytes, behind_head}
 use Rattle.link_rules.specs.Targets.{beside_in, mapped_in, target_in, unshared_in}
-use Rattle.link_mapping.specs.declared.symbol_mapping.SymbolMapping.{SymbolMapping}
-use Rattle.link_mapping.specs.Keys.{plain_key, versioned_key}
-use Rattle.link_mapping.specs.Mapped.{later_in, mapped_key}
-use Rattle.link_mapping.specs.Seen as mapping
-use Rattle.link_mapping.proofs.Telling.{all_behind, mapped_told, mapped_within}
+use Rattle.link_db_mapping.specs.declared.symbol_mapping.SymbolMapping.{SymbolMapping}
+use Rattle.link_db_mapping.specs.Keys.{plain_key, versioned_key}
+use Rattle.link_db_mapping.specs.Mapped.{later_in, mapped_key}
+use Rattle.link_db_mapping.specs.Seen as mapping
+use Rattle.link_db_mapping.proofs.Telling.{all_behind, mapped_told, mapped_within}
 use Rattle.link_db.specs.declared.database.SymbolDb.{SymbolDb}
 use Rattle.link_db.specs.Database.{name_table_of, symbol_names}
 use Rattle.link_db.specs.Seen.{seen}

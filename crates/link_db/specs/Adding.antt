@@ -2,19 +2,19 @@
 use Rattle.std.specs.Prelude.{ℕ, ◌≡◌, ◌-◌, List, [], ◌∷◌, ◌++◌, drop, length, map, not, Option, None}
 use Rattle.std.specs.List.{flat_map, range_with_len}
 use Rattle.link_flags.specs.declared.value_flags.RawFlags.{RawFlags}
-use Rattle.link_groups.specs.declared.groups_error.GroupsError.{GroupsError}
-use Rattle.link_groups.specs.declared.groups_error.GroupsError.TheVariants as groups
+use Rattle.link_input_groups.specs.declared.groups_error.GroupsError.{GroupsError}
+use Rattle.link_input_groups.specs.declared.groups_error.GroupsError.TheVariants as groups
 use Rattle.link_input.specs.InputFiles.{Batch}
 use Rattle.link_input.specs.Limits.{counts_of, first_excess}
-use Rattle.link_reading.specs.declared.read_symbols.ReadSymbols.{ReadSymbols}
-use Rattle.link_reading.specs.Files as read
+use Rattle.link_db_ingest.specs.declared.read_symbols.ReadSymbols.{ReadSymbols}
+use Rattle.link_db_ingest.specs.Files as read
 use Rattle.link_rules.specs.declared.refusal.LinkError.{LinkError}
 use Rattle.link_rules.specs.declared.refusal.LinkError.TheVariants.{TooMany, Memory}
 use Rattle.link_rules.specs.Opening.{opening_flags}
 use Rattle.link_rules.specs.Places.{is_empty}
 use Rattle.link_rules.specs.Refusals.{first_cause, linker_script_cause, too_many}
 use Rattle.link_rules.specs.World.{Stage}
-use Rattle.link_files.specs.GroupFiles.{symbols_in}
+use Rattle.link_db_files.specs.GroupFiles.{symbols_in}
 use Rattle.link_db.specs.Database.{Database, HasTable, symbol_names}
 use Rattle.link_flags.specs.FlagWords.{numbers_of}
 

@@ -3,10 +3,10 @@ use Rattle.std.specs.Prelude.{ℕ, ◌≡◌, ◌<◌, ◌≤◌, List, [], All,
 use Rattle.link_input.specs.declared.options.Options.{Options}
 use Rattle.link_rules.specs.Places.{Bytes}
 use Rattle.link_rules.specs.Targets.{NameTable}
-use Rattle.link_loader.specs.ReadTexts.{ReadTexts}
-use Rattle.link_files.specs.HeldFiles.{names_in, is_shared_in, strength_of}
-use Rattle.link_mapping.specs.Keys.{versioned_key}
-use Rattle.link_mapping.specs.Mapped.{Mapped, later_in, mapped_key, mapping_of}
+use Rattle.link_db_texts.specs.ReadTexts.{ReadTexts}
+use Rattle.link_db_files.specs.HeldFiles.{names_in, is_shared_in, strength_of}
+use Rattle.link_db_mapping.specs.Keys.{versioned_key}
+use Rattle.link_db_mapping.specs.Mapped.{Mapped, later_in, mapped_key, mapping_of}
 
 -- the options, what the scripts say of names, the number of workers, which symbols define names, and what each symbol points to: nothing while
 -- the table is taken

@@ -1,10 +1,10 @@
 -- Where a symbol stands, as messages show it.
 use Rattle.std.specs.Prelude.{ℕ, ◌≡◌, Some}
 use Rattle.link_ids.specs.Span.{offset_in}
-use Rattle.link_groups.specs.SequencedInputs.{sequenced_file}
-use Rattle.link_files.specs.GroupFiles.{IsIn, file_at}
-use Rattle.link_files.specs.HeldFiles.{HeldFiles}
-use Rattle.link_display.specs.declared.symbol_debug.SymbolPlace.{SymbolPlace}
+use Rattle.link_input_groups.specs.SequencedInputs.{sequenced_file}
+use Rattle.link_db_files.specs.GroupFiles.{IsIn, file_at}
+use Rattle.link_db_files.specs.HeldFiles.{HeldFiles}
+use Rattle.link_db_display.specs.declared.symbol_debug.SymbolPlace.{SymbolPlace}
 
 -- the symbol stands there: in which file, and at which place among its symbols
 pub record IsPlaceOf {P : Type 0} (held : HeldFiles P) (id : ℕ) (place : SymbolPlace P) : Type 0 where

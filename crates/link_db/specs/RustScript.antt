@@ -1,7 +1,7 @@
 -- What a version script of the Rust form makes of flags.
 use Rattle.std.specs.Prelude.{ℕ, List, filter_map, map, Option, Some, None}
 use Rattle.std.specs.Option.{option_to_list}
-use Rattle.link_mapping.specs.Mapped.{mapping_of}
+use Rattle.link_db_mapping.specs.Mapped.{mapping_of}
 use Rattle.link_rules.specs.Places.{Bytes, each_from}
 use Rattle.link_rules.specs.Rivals.{two_steps}
 use Rattle.link_rules.specs.Visibility.{rust_flags}

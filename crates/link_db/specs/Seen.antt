@@ -1,6 +1,6 @@
 -- What a database says.
 use Rattle.link_input.specs.declared.platform.Platform.{Ghosts}
-use Rattle.link_mapping.specs.Seen as names
+use Rattle.link_db_mapping.specs.Seen as names
 use Rattle.link_db.specs.declared.database.SymbolDb.{SymbolDb}
 use Rattle.link_db.specs.Database.{Database}
 

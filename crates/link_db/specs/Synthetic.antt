@@ -1,8 +1,8 @@
 -- A symbol that the linker makes.
 use Rattle.std.specs.Prelude.{ℕ, [], ◌∷◌, ◌++◌, length}
-use Rattle.link_files.specs.Adding.{with_symbol}
-use Rattle.link_mapping.specs.Changes.{listed_under, listing_name}
-use Rattle.link_mapping.specs.Mapped.{Mapped}
+use Rattle.link_db_files.specs.Adding.{with_symbol}
+use Rattle.link_db_mapping.specs.Changes.{listed_under, listing_name}
+use Rattle.link_db_mapping.specs.Mapped.{Mapped}
 use Rattle.link_rules.specs.Places.{Bytes}
 use Rattle.link_db.specs.Database.{Database, symbol_names}
 

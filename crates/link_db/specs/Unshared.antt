@@ -3,7 +3,7 @@ use Rattle.std.specs.Prelude.{ℕ, List, filter, map, not, if◌then◌else◌}
 use Rattle.link_flags.specs.Pick.{Candidate}
 use Rattle.link_flags.specs.Selector.{after}
 use Rattle.link_flags.specs.declared.selector.SymbolPrioritySelector.{SymbolPrioritySelector}
-use Rattle.link_files.specs.HeldFiles.{HeldFiles, is_shared_in, strength_of}
+use Rattle.link_db_files.specs.HeldFiles.{HeldFiles, is_shared_in, strength_of}
 
 -- those of these symbols that are not shared, each with how strongly it binds
 abbrev pub unshared : {P : Type 0} → HeldFiles P → List ℕ → List Candidate

@@ -1,17 +1,17 @@
 //! The files of a batch are added.
 
 ghost use Rattle.std.specs.Prelude.{◌≡◌};
-ghost use Rattle.link_groups.specs.declared.groups_error.GroupsError.{GroupsError};
+ghost use Rattle.link_input_groups.specs.declared.groups_error.GroupsError.{GroupsError};
 ghost use Rattle.link_db.specs.Adding.{error_of};
 
 use crate::counting::symbols_of_groups;
 use crate::database::SymbolDb;
 use crate::growing::{grown_flags, new_entries};
+use link_db_ingest::read_groups;
+use link_db_texts::TakenScript;
 use link_flags::PerSymbolFlags;
-use link_groups::{Group, GroupsError, create_groups};
 use link_input::{Inputs, Platform};
-use link_loader::TakenScript;
-use link_reading::read_groups;
+use link_input_groups::{Group, GroupsError, create_groups};
 use link_rules::LinkError;
 use link_script::Demangler;
 use std::alloc::{AllocError, Global};
@@ -30,20 +30,20 @@ fn error_of(error: GroupsError) -> LinkError
 impl<P: Platform + Sync> SymbolDb<P> {
     ghost use Rattle.std.specs.Prelude.{◌<◌, ◌++◌, [], ◌∷◌, List, IsTrue, IfOk, OnOk, OnErr, length, not};
     ghost use Rattle.link_flags.specs.FlagWords.{words_of};
-    ghost use Rattle.link_groups.specs.Held.{AreGroupsOf};
+    ghost use Rattle.link_input_groups.specs.Held.{AreGroupsOf};
     ghost use Rattle.link_input.specs.declared.options.Options.{Options};
     ghost use Rattle.link_input.specs.declared.world.ProcessedLinkerScript.{ProcessedLinkerScript};
     ghost use Rattle.link_input.specs.declared.world.Scripts.{Scripts};
     ghost use Rattle.link_input.specs.InputFiles.{Batch, batch_of};
     ghost use Rattle.link_input.specs.Limits.{batch_limit, counts_of, first_excess};
-    ghost use Rattle.link_files.specs.GroupFiles.{AreGroupsOfLink, symbols_in};
-    ghost use Rattle.link_mapping.specs.Mapped.{AreListed};
+    ghost use Rattle.link_db_files.specs.GroupFiles.{AreGroupsOfLink, symbols_in};
+    ghost use Rattle.link_db_mapping.specs.Mapped.{AreListed};
     ghost use Rattle.link_rules.specs.Places.{is_empty};
     ghost use Rattle.link_rules.specs.Refusals.{too_many};
     ghost use Rattle.link_rules.specs.World.{Stage};
-    ghost use Rattle.link_loader.specs.Causes.{TellsCause};
-    ghost use Rattle.link_loader.specs.Holds.{AreRulesOf, HoldsTexts, platform_of};
-    ghost use Rattle.link_loader.specs.ReadTexts.{with_taken};
+    ghost use Rattle.link_db_texts.specs.Causes.{TellsCause};
+    ghost use Rattle.link_db_texts.specs.Holds.{AreRulesOf, HoldsTexts, platform_of};
+    ghost use Rattle.link_db_texts.specs.ReadTexts.{with_taken};
     ghost use Rattle.link_db.specs.Database.{HasTable, symbol_names};
     ghost use Rattle.link_db.specs.Adding.{HaveOpeningFlags, IsGrown, inputs_cause};
     ghost use Rattle.link_db.specs.Seen.{seen};

@@ -1,11 +1,11 @@
 //! How many symbols groups have.
 
 ghost use Rattle.std.specs.Prelude.{◌≡◌, ◌<◌, ◌^◌, length};
-ghost use Rattle.link_files.specs.GroupFiles.{symbols_in};
-ghost use Rattle.link_groups.specs.Asked.{AllCanBeAsked};
+ghost use Rattle.link_db_files.specs.GroupFiles.{symbols_in};
+ghost use Rattle.link_input_groups.specs.Asked.{AllCanBeAsked};
 
-use link_groups::Group;
 use link_input::Platform;
+use link_input_groups::Group;
 
 /// How many symbols groups have.
 pub fn symbols_of_groups<P: Platform>(groups: &[Group<P>]) -> usize

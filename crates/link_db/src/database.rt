@@ -1,14 +1,14 @@
 //! The database, and what it lends.
 
-ghost use Rattle.link_mapping.specs.Seen.{seen};
+ghost use Rattle.link_db_mapping.specs.Seen.{seen};
 ghost use Rattle.link_db.specs.Database.{IsSound};
 
-use link_files::Files;
-use link_groups::Group;
+use link_db_files::Files;
+use link_db_mapping::SymbolMapping;
+use link_db_texts::TextRules;
 use link_ids::SymbolId;
 use link_input::{Options, OutputKind, Platform, Scripts};
-use link_loader::TextRules;
-use link_mapping::SymbolMapping;
+use link_input_groups::Group;
 use link_names::Name;
 use link_rules::LinkError;
 use link_script::{ExportList, VersionScript};
@@ -46,8 +46,8 @@ impl<P: Platform> SymbolDb<P> {
     ghost use Rattle.link_rules.specs.Refusals.{text_refusal};
     ghost use Rattle.link_rules.specs.Rules.{Rules};
     ghost use Rattle.link_rules.specs.World.{World};
-    ghost use Rattle.link_loader.specs.Causes.{IsGiven, TellsCause};
-    ghost use Rattle.link_loader.specs.Holds.{AreRulesOf, HoldsTexts, platform_of};
+    ghost use Rattle.link_db_texts.specs.Causes.{IsGiven, TellsCause};
+    ghost use Rattle.link_db_texts.specs.Holds.{AreRulesOf, HoldsTexts, platform_of};
     ghost use Rattle.link_db.specs.Database.{no_names};
     ghost use Rattle.link_db.specs.Seen as db;
 

@@ -2,11 +2,11 @@
 
 ghost use Rattle.std.specs.Prelude.{◌≡◌, [], ◌∷◌, filter_map, map, option_map};
 ghost use Rattle.std.specs.Option.{option_or};
-ghost use Rattle.link_files.specs.Inputs.{scripts_in};
+ghost use Rattle.link_db_files.specs.Inputs.{scripts_in};
 ghost use Rattle.link_rules.specs.Places.{last_of};
 
-use link_groups::{Group, SequencedLinkerScript};
 use link_input::Platform;
+use link_input_groups::{Group, SequencedLinkerScript};
 use link_names::Name;
 
 /// The linker scripts of a group.

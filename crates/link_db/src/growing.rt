@@ -5,9 +5,9 @@ ghost use Rattle.std.specs.List.{range_with_len};
 ghost use Rattle.link_flags.specs.FlagWords.{numbers_of, words_of};
 ghost use Rattle.link_db.specs.Adding.{flags_in};
 
+use link_db_ingest::ReadSymbols;
 use link_flags::{PerSymbolFlags, RawFlags, ValueFlags};
 use link_ids::{SymbolId, SymbolIdRange};
-use link_reading::ReadSymbols;
 use std::alloc::{AllocError, Global};
 
 /// The ids from `first` up to `end`: an entry for each symbol that points to itself.

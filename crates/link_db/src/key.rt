@@ -1,9 +1,9 @@
 //! A name, as it is looked up.
 
 ghost use Rattle.std.specs.Prelude.{◌≡◌};
-ghost use Rattle.link_buckets.specs.Keys.{hash_of, key_of};
+ghost use Rattle.link_db_buckets.specs.Keys.{hash_of, key_of};
 
-use link_buckets::key_hash;
+use link_db_buckets::key_hash;
 use std::marker::Model;
 
 /// A name, with its version where it has one, and the hash number by which it is found. Mirrors Wild's
@@ -17,7 +17,7 @@ pub struct SymbolKey<'a> {
 
 impl<'a> Model for SymbolKey<'a> {
     ghost use Rattle.std.specs.Prelude.{◌≡◌};
-    ghost use Rattle.link_buckets.specs.Keys.{Key, hash_of, key_of};
+    ghost use Rattle.link_db_buckets.specs.Keys.{Key, hash_of, key_of};
 
     ghost Value = { Key };
 
@@ -57,7 +57,7 @@ impl<'a> SymbolKey<'a> {
         self.name
     }
 
-    /// The hash number of the name, or of the name and version: that of `link_buckets::key_hash`, SipHash-1-3 with a fixed key.
+    /// The hash number of the name, or of the name and version: that of `link_db_buckets::key_hash`, SipHash-1-3 with a fixed key.
     pub fn hash(&self) -> u64
         ensures { result ≡ hash_of self.now }
     {

@@ -3,18 +3,18 @@
 use crate::database::SymbolDb;
 use crate::key::SymbolKey;
 use crate::picking::pick_unshared;
-use link_buckets::key_hash;
+use link_db_buckets::key_hash;
+use link_db_mapping::MappedNames;
 use link_ids::SymbolId;
 use link_input::Platform;
-use link_mapping::MappedNames;
 use std::alloc::{AllocError, Global};
 
 impl<P: Platform> SymbolDb<P> {
     ghost use Rattle.std.specs.Prelude.{◌≡◌, ◌≢◌, ◌<◌, ◌||◌, ℕ, All, AllPairs, Contains, IfOk, IfSome, None, Option, Some, false, length, not};
-    ghost use Rattle.link_buckets.specs.Keys.{hash_of};
+    ghost use Rattle.link_db_buckets.specs.Keys.{hash_of};
     ghost use Rattle.link_flags.specs.Pick.{pick};
-    ghost use Rattle.link_files.specs.HeldFiles.{is_shared_in};
-    ghost use Rattle.link_mapping.specs.Mapped.{AreHeadsMarked, later_in, later_versioned_in, mapping_of};
+    ghost use Rattle.link_db_files.specs.HeldFiles.{is_shared_in};
+    ghost use Rattle.link_db_mapping.specs.Mapped.{AreHeadsMarked, later_in, later_versioned_in, mapping_of};
     ghost use Rattle.link_rules.specs.Places.{Bytes};
     ghost use Rattle.link_rules.specs.Targets.{mapped_in, target_in, unshared_in};
     ghost use Rattle.link_db.specs.Database.{name_table_of, symbol_names};

@@ -1,11 +1,11 @@
 //! Names that demangle to a target.
 
 ghost use Rattle.std.specs.Prelude.{◌≡◌, drop};
-ghost use Rattle.link_files.specs.HeldFiles.{names_in};
+ghost use Rattle.link_db_files.specs.HeldFiles.{names_in};
 ghost use Rattle.link_rules.specs.Places.{first_of, places_from};
 ghost use Rattle.link_db.specs.Mangled.{stands_for};
 
-use link_files::Files;
+use link_db_files::Files;
 use link_ids::SymbolId;
 use link_input::Platform;
 use link_names::text_of;

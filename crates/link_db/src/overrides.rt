@@ -9,7 +9,7 @@ use std::alloc::{AllocError, Global};
 
 impl<P: Platform> SymbolDb<P> {
     ghost use Rattle.std.specs.Prelude.{◌≡◌, ◌<◌, ℕ, Some, IfOk, OnOk, OnErr, fold, length, take};
-    ghost use Rattle.link_mapping.specs.Mapped.{mapping_of};
+    ghost use Rattle.link_db_mapping.specs.Mapped.{mapping_of};
     ghost use Rattle.link_rules.specs.Names.{mapping_with, wrapped};
     ghost use Rattle.link_rules.specs.Places.{Bytes};
     ghost use Rattle.link_db.specs.Database.{symbol_names};

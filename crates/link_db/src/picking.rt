@@ -3,10 +3,10 @@
 ghost use Rattle.std.specs.Prelude.{◌≡◌, ◌<◌, All, IfSome, length};
 ghost use Rattle.link_flags.specs.Pick.{pick};
 ghost use Rattle.link_flags.specs.Selector.{after};
-ghost use Rattle.link_files.specs.HeldFiles.{names_in};
+ghost use Rattle.link_db_files.specs.HeldFiles.{names_in};
 ghost use Rattle.link_db.specs.Unshared.{after_unshared, unshared};
 
-use link_files::Files;
+use link_db_files::Files;
 use link_flags::SymbolPrioritySelector;
 use link_ids::SymbolId;
 use link_input::Platform;

@@ -3,11 +3,11 @@
 use crate::database::SymbolDb;
 use crate::entry::entry_of_scripts;
 use crate::mangled::find_mangled;
-use link_display::SymbolNameDisplay;
+use link_db_display::SymbolNameDisplay;
 use link_flags::{FlagsForSymbol, SymbolStrength, ValueFlags, Visibility};
-use link_groups::SequencedInput;
 use link_ids::{FileId, SymbolId};
 use link_input::{InternalSymDefInfo, Platform};
+use link_input_groups::SequencedInput;
 use link_names::{NameView, is_mapping_symbol_name};
 use link_script::Demangler;
 
@@ -16,10 +16,10 @@ impl<P: Platform> SymbolDb<P> {
     ghost use Rattle.std.specs.Int.RustNames.{bit_and, bit_or};
     ghost use Rattle.link_flags.specs.FlagBits as flag;
     ghost use Rattle.link_flags.specs.FlagWords.{bits_at};
-    ghost use Rattle.link_groups.specs.SequencedInputs.{sequenced_file};
-    ghost use Rattle.link_files.specs.GroupFiles.{file_at, IsFileOf};
-    ghost use Rattle.link_files.specs.HeldFiles.{is_undefined_in, prelude_definition_of, strength_of, version_of, visibility_of};
-    ghost use Rattle.link_files.specs.Inputs.{objects_in, scripts_in};
+    ghost use Rattle.link_input_groups.specs.SequencedInputs.{sequenced_file};
+    ghost use Rattle.link_db_files.specs.GroupFiles.{file_at, IsFileOf};
+    ghost use Rattle.link_db_files.specs.HeldFiles.{is_undefined_in, prelude_definition_of, strength_of, version_of, visibility_of};
+    ghost use Rattle.link_db_files.specs.Inputs.{objects_in, scripts_in};
     ghost use Rattle.link_names.specs.SpecialNames.{is_mapping_name};
     ghost use Rattle.link_rules.specs.Loading.{entry_name};
     ghost use Rattle.link_rules.specs.Places.{first_of, places_from};

@@ -9,7 +9,7 @@ use link_names::Name;
 impl<P: Platform> SymbolDb<P> {
     ghost use Rattle.std.specs.Prelude.{◌≡◌, length};
     ghost use Rattle.link_flags.specs.FlagWords.{numbers_of, words_of};
-    ghost use Rattle.link_loader.specs.Holds.{AreRulesOf, platform_of};
+    ghost use Rattle.link_db_texts.specs.Holds.{AreRulesOf, platform_of};
     ghost use Rattle.link_rules.specs.Places.{Bytes, each_from};
     ghost use Rattle.link_rules.specs.Rules.{Rules};
     ghost use Rattle.link_db.specs.Database.{HasTable, symbol_names};

@@ -1,7 +1,7 @@
 //! Symbols as messages show them.
 
 use crate::database::SymbolDb;
-use link_display::{SymbolDebug, SymbolPlace};
+use link_db_display::{SymbolDebug, SymbolPlace};
 use link_flags::FlagsForSymbol;
 use link_ids::{SectionIndex, SymbolId};
 use link_input::Platform;
@@ -9,7 +9,7 @@ use link_input::Platform;
 impl<P: Platform> SymbolDb<P> {
     ghost use Rattle.std.specs.Prelude.{◌≡◌, ◌<◌, Some, length, option_and_then, slice_get};
     ghost use Rattle.link_flags.specs.FlagWords.{bits_at};
-    ghost use Rattle.link_files.specs.HeldFiles.{entry_of};
+    ghost use Rattle.link_db_files.specs.HeldFiles.{entry_of};
     ghost use Rattle.link_input.specs.Entries.{section_of};
     ghost use Rattle.link_rules.specs.Rivals.{two_steps};
     ghost use Rattle.link_db.specs.Database.{HasTable, symbol_names};

@@ -2,19 +2,19 @@
 
 use crate::database::SymbolDb;
 use link_flags::{PerSymbolFlags, ValueFlags};
-use link_groups::Group;
 use link_ids::{FileId, SymbolId};
 use link_input::Platform;
+use link_input_groups::Group;
 use link_names::Name;
 use std::alloc::{AllocError, Global};
 
 impl<P: Platform> SymbolDb<P> {
     ghost use Rattle.std.specs.Prelude.{◌≡◌, ◌-◌, ◌<◌, ◌^◌, ◌++◌, [], ◌∷◌, IfOk, OnErr, OnOk, length, take};
-    ghost use Rattle.link_buckets.specs.Keys.{Key};
+    ghost use Rattle.link_db_buckets.specs.Keys.{Key};
     ghost use Rattle.link_flags.specs.FlagBits as flag;
     ghost use Rattle.link_flags.specs.FlagWords.{numbers_of, words_of};
-    ghost use Rattle.link_files.specs.Adding.{CanFollow, EndsInSynthetic, next_file, synthetic_group, with_symbol};
-    ghost use Rattle.link_mapping.specs.Changes.{listed_under, listing_name, with_group};
+    ghost use Rattle.link_db_files.specs.Adding.{CanFollow, EndsInSynthetic, next_file, synthetic_group, with_symbol};
+    ghost use Rattle.link_db_mapping.specs.Changes.{listed_under, listing_name, with_group};
     ghost use Rattle.link_db.specs.Database.{HasTable, symbol_names};
     ghost use Rattle.link_db.specs.Seen.{seen};
     ghost use Rattle.link_db.specs.Synthetic.{with_linker_symbol};

@@ -1,12 +1,12 @@
 //! Names are wrapped, one after another.
 
 ghost use Rattle.std.specs.Prelude.{◌≡◌, ℕ, OnOk, OnErr, fold, take};
-ghost use Rattle.link_mapping.specs.Mapped.{mapping_of};
-ghost use Rattle.link_mapping.specs.Seen.{seen};
+ghost use Rattle.link_db_mapping.specs.Mapped.{mapping_of};
+ghost use Rattle.link_db_mapping.specs.Seen.{seen};
 ghost use Rattle.link_rules.specs.Names.{wrapped};
 
+use link_db_mapping::SymbolMapping;
 use link_input::Platform;
-use link_mapping::SymbolMapping;
 use link_names::Name;
 use std::alloc::{AllocError, Global};
 

@@ -1,8 +1,8 @@
 //! What differs from platform to platform.
 
 ghost use Rattle.std.specs.Prelude.{◌≡◌, ℕ, Bool, true, false, List, Option, Result, Ok, IfOk, IfErr};
-ghost use Rattle.link_syntax.specs.declared.fault.Fault.{Fault};
-ghost use Rattle.link_syntax.specs.Fault.{Refuses};
+ghost use Rattle.link_script_syntax.specs.declared.fault.Fault.{Fault};
+ghost use Rattle.link_script_syntax.specs.Fault.{Refuses};
 ghost use Rattle.link_script.specs.ListedNames.{ListedNames, IsListNamed, gnu_names, macho_names};
 ghost use Rattle.link_input.specs.declared.symbol_entry.SymbolEntry.{SymbolEntry};
 ghost use Rattle.link_input.specs.declared.options.OutputKind.{OutputKind};
@@ -12,7 +12,7 @@ use crate::options::OutputKind;
 use crate::symbol_row::SymbolRow;
 use link_flags::Visibility;
 use link_script::ExportList;
-use link_syntax::ScriptFault;
+use link_script_syntax::ScriptFault;
 use std::alloc::Global;
 
 /// A platform: its constants, and rules that are functions of their arguments. Mirrors Wild's `Platform`.

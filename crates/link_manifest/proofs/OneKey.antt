@@ -8,7 +8,7 @@ use Rattle.std.specs.Str.{bytes_eq}
 use Rattle.json.specs.Json as json
 use Rattle.serde_json.specs.Data.{Data, Members, no_members, member, put}
 use Rattle.serde_json.specs.Find.{as_str}
-use Rattle.link_json.specs.Tree.{data_of, put_all}
+use Rattle.link_manifest_json.specs.Tree.{data_of, put_all}
 use Rattle.link_manifest.specs.Values.{hex_text}
 
 -- a member with the key `hex` stands alone once it is put

@@ -1,7 +1,7 @@
 //! The batches of a manifest: the one whose files stand at its root, and those that come behind it.
 
 ghost use Rattle.std.specs.Prelude.{◌≡◌, IfErr, IfOk, map, Ok};
-ghost use Rattle.link_json.specs.Tree.{view};
+ghost use Rattle.link_manifest_json.specs.Tree.{view};
 ghost use Rattle.link_manifest.specs.Batches.{batch_read, batches_read, files_read, inputs_of};
 ghost use Rattle.link_manifest.specs.Checked.{batch_checked, batches_checked, few_batches, later_checked};
 ghost use Rattle.link_manifest.specs.declared.fault.Step.TheVariants.{Item};

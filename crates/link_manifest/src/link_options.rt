@@ -1,7 +1,7 @@
 //! The options that a manifest gives.
 
 ghost use Rattle.std.specs.Prelude.{◌≡◌, codes, IfOk};
-ghost use Rattle.link_json.specs.Tree.{view};
+ghost use Rattle.link_manifest_json.specs.Tree.{view};
 ghost use Rattle.link_manifest.specs.Checked.{IsGroupSize};
 ghost use Rattle.link_manifest.specs.LinkOptions.{placement_at, linker_symbol_read, options_read, texts_read};
 ghost use Rattle.link_manifest.specs.Reading.{optional, Reads};

@@ -1,7 +1,7 @@
 //! A manifest, and which bytes are one.
 
 ghost use Rattle.std.specs.Prelude.{◌≡◌, ◌≤◌, Ok, Err, IfOk, IfErr, length};
-ghost use Rattle.link_json.specs.Tree.{view};
+ghost use Rattle.link_manifest_json.specs.Tree.{view};
 ghost use Rattle.link_manifest.specs.declared.fault.ManifestFault.{ManifestFault};
 ghost use Rattle.link_manifest.specs.Checked.{AreDistinct, HasDistinctSections, HasFewBatches, HasGroupSize, IsGroupSize, contents_checked};
 ghost use Rattle.link_manifest.specs.Manifest.{contents_read, json_of, manifest_of, root_read, tree_of, world_of, world_read};
@@ -130,7 +130,7 @@ fn json_of<'a>(
     let Some(text) = text_of(bytes) else {
         return Err(fault_here(alloc, Problem::NotJson));
     };
-    match link_json::tree_of(alloc, text, scratch)? {
+    match link_manifest_json::tree_of(alloc, text, scratch)? {
         Some(value) => Ok(value),
         None => Err(fault_here(alloc, Problem::NotJson)),
     }

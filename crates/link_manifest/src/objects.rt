@@ -1,6 +1,6 @@
 //! The objects of a manifest, and their section groups.
 
-ghost use Rattle.link_json.specs.Tree.{view};
+ghost use Rattle.link_manifest_json.specs.Tree.{view};
 ghost use Rattle.link_manifest.specs.Objects.{group_read, object_keys, object_read};
 ghost use Rattle.link_manifest.specs.Reading.{object_of_keys, Reads};
 

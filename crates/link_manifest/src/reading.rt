@@ -4,14 +4,14 @@ ghost use Rattle.std.specs.Prelude.{◌≡◌, ◌++◌, [], map, option_map, No
 ghost use Rattle.std.specs.List.{list_any};
 ghost use Rattle.std.specs.Str.{bytes_eq};
 ghost use Rattle.serde_json.specs.Data.{Data};
-ghost use Rattle.link_json.specs.Tree.{view, items_view, members_view};
+ghost use Rattle.link_manifest_json.specs.Tree.{view, items_view, members_view};
 ghost use Rattle.link_manifest.specs.declared.fault.ManifestFault.{ManifestFault};
 ghost use Rattle.link_manifest.specs.Reading.{and_read, is_sooner, with_key, unknown_key, none_unknown, object_of_keys, required, optional, or_null, items_read, list_read, Reads};
 
 use crate::fault::{Kind, ManifestError, Problem};
 use crate::path::{at_item, at_key, error_at_key, fault_here};
 use json::Value;
-use link_json::{get, is_null};
+use link_manifest_json::{get, is_null};
 use link_names::Seq;
 use std::alloc::Global;
 use std::marker::PhantomData;
@@ -90,7 +90,7 @@ pub(crate) fn object_of_keys(
 ) -> Result<(), ManifestError>
     ensures { Reads result (object_of_keys (map (λ k. k.now) known.now) (view value.now)) }
 {
-    match link_json::members(value) {
+    match link_manifest_json::members(value) {
         Some(members) => none_unknown(alloc, unknown_key(members, known)),
         None => Err(fault_here(alloc, Problem::Expected(Kind::Object))),
     }
@@ -152,7 +152,7 @@ impl<K: Readable> Readable for ListOf<K> {
     ghost read = { list_read K.read };
 
     fn read(alloc: Global, value: &Value<'_>) -> Result<Seq<K::Read>, ManifestError> {
-        match link_json::items(value) {
+        match link_manifest_json::items(value) {
             Some(values) => items::<K>(alloc, values, Vec::new(alloc)),
             None => Err(fault_here(alloc, Problem::Expected(Kind::List))),
         }

@@ -95,7 +95,7 @@ impl<P: Platform> Readable for Table<P> {
     ghost read = { table_read P.HAS_NULL_SYMBOL_ENTRY };
 
     fn read(alloc: Global, value: &Value<'_>) -> Result<Seq<SymbolEntry>, ManifestError> {
-        match link_json::items(value) {
+        match link_manifest_json::items(value) {
             Some(values) => items::<Symbol>(alloc, values, entries_before::<P>(alloc)?),
             None => Err(fault_here(alloc, Problem::Expected(Kind::List))),
         }

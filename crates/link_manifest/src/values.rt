@@ -2,7 +2,7 @@
 
 ghost use Rattle.std.specs.Prelude.{◌≡◌, option_map};
 ghost use Rattle.serde_json.specs.Find.{as_str};
-ghost use Rattle.link_json.specs.Tree.{view, members_view};
+ghost use Rattle.link_manifest_json.specs.Tree.{view, members_view};
 ghost use Rattle.link_names.specs.Names.{value_in};
 ghost use Rattle.link_manifest.specs.declared.fault.Kind.TheVariants as kind;
 ghost use Rattle.link_manifest.specs.declared.fault.Problem.TheVariants.{Expected};
@@ -15,7 +15,7 @@ use crate::reading::Readable;
 use hex::FromHexError;
 use json::Value;
 use link_input::Place;
-use link_json::{to_bool, to_text, to_u64};
+use link_manifest_json::{to_bool, to_text, to_u64};
 use link_names::Name;
 use std::alloc::Global;
 
@@ -72,7 +72,7 @@ impl Readable for Bytes {
         if let Some(text) = to_text(value) {
             return Ok(Name::from_slice(alloc, text.as_bytes())?);
         }
-        match link_json::members(value).and_then(hex_text) {
+        match link_manifest_json::members(value).and_then(hex_text) {
             Some(digits) => hex_bytes(alloc, digits),
             None => Err(fault_here(alloc, Problem::Expected(Kind::Bytes))),
         }

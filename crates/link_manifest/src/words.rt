@@ -10,7 +10,7 @@ use crate::reading::Readable;
 use json::Value;
 use link_flags::Visibility;
 use link_input::{OutputKind, SymbolBinding, SymbolKind};
-use link_json::to_text;
+use link_manifest_json::to_text;
 use std::alloc::Global;
 use std::marker::PhantomData;
 

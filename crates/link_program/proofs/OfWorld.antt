@@ -1,10 +1,10 @@
 -- The text of a link of a world is that of the bytes that describe it, of the source that had them left, and of the words.
 use Rattle.std.proofs.Common.{◌≡◌, ◌≢◌, ◌⊎◌, ◌≤◌, ℕ, List, Option, Result, Ok, Err, IfOk, inl, inr, refl, sym, subst, ◌∙◌, Some, None}
-use Rattle.link_bulk.proofs.Linking.{not-refused}
-use Rattle.link_bulk.specs.Bulk.{bulk_objects}
-use Rattle.link_bulk.specs.World.{bulk_world}
+use Rattle.link_manifest_bulk.proofs.Linking.{not-refused}
+use Rattle.link_manifest_bulk.specs.Bulk.{bulk_objects}
+use Rattle.link_manifest_bulk.specs.World.{bulk_world}
 use Rattle.std.proofs.lemmas.List.{append-nil}
-use Rattle.link_streams.specs.Streams.{Gives, IsAtEnd}
+use Rattle.link_program_streams.specs.Streams.{Gives, IsAtEnd}
 use Rattle.std.specs.Prelude.{IfSome}
 use Rattle.link_rules.specs.Linked.{Linked as Answer}
 use Rattle.link_rules.specs.declared.refusal.LinkError.{LinkError}

@@ -2,8 +2,8 @@
 use Rattle.std.proofs.Common.{◌≡◌, ◌⊎◌, ℕ, inl, inr, List, ◌++◌, Option, Some, None, IsSome, Result, Ok, Err, codes, refl, sym, ◌∙◌, subst, ap}
 use Rattle.link_rules.specs.Places.{Bytes}
 use Rattle.std.specs.Prelude.{decimal}
-use Rattle.link_bulk.specs.Bulk.{bulk_objects}
-use Rattle.link_bulk.specs.World.{bulk_world}
+use Rattle.link_manifest_bulk.specs.Bulk.{bulk_objects}
+use Rattle.link_manifest_bulk.specs.World.{bulk_world}
 use Rattle.link_rules.specs.Linked.{Linked as Answer}
 use Rattle.link_rules.specs.Answer.{IsRefused, IsReport, IsRefusalText}
 use Rattle.link_rules.proofs.WorldOnce.{one-linked, one-report, one-refusal_text, not-both}

@@ -1,8 +1,8 @@
 -- What a command writes, by how it ends.
 use Rattle.std.specs.Prelude.{◌≡◌, ◌⊎◌, ℕ, List, [], ◌∷◌, ◌++◌, map, Option, IsSome, IfSome, Ok, Err, codes}
 use Rattle.std.specs.List.{flat_map}
-use Rattle.link_bulk.specs.Bulk.{bulk_objects}
-use Rattle.link_bulk.specs.World.{bulk_world}
+use Rattle.link_manifest_bulk.specs.Bulk.{bulk_objects}
+use Rattle.link_manifest_bulk.specs.World.{bulk_world}
 use Rattle.link_core.specs.Given.{given_in_batches}
 use Rattle.link_rules.specs.Places.{Bytes}
 use Rattle.link_input.specs.InputFiles.{batch_of}

@@ -4,7 +4,7 @@ ghost use Rattle.std.specs.Prelude.{◌≡◌, ◌≢◌, ℕ, ◌≤◌, decima
 ghost use Rattle.link_program.specs.Grammar.{IsCommand, IsNoCommand};
 
 use crate::word::Word;
-use link_bulk::MAX_MEMBERS;
+use link_manifest_bulk::MAX_MEMBERS;
 
 /// The most workers that a link has.
 const MAX_WORKERS: usize = 256;

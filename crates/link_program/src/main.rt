@@ -10,7 +10,7 @@ mod status;
 mod tests;
 mod word;
 
-use link_streams::{RealSink, RealSource};
+use link_program_streams::{RealSink, RealSource};
 use run::run;
 use status::Status;
 use std::alloc::{AllocError, Global};

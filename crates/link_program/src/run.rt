@@ -1,38 +1,38 @@
 //! The program, over any source and sink.
 
 ghost use Rattle.std.specs.Prelude.{◌≡◌, ◌≢◌, ◌≤◌, ◌⊎◌, ◌+◌, ◌^◌, ◌++◌, ◌∷◌, codes, IfOk, length, map};
-ghost use Rattle.link_answer.specs.Parts.{answer_of};
-ghost use Rattle.link_answer.specs.Seen as answer;
+ghost use Rattle.link_core_answer.specs.Parts.{answer_of};
+ghost use Rattle.link_core_answer.specs.Seen as answer;
 ghost use Rattle.link_core.specs.Given.{given_in_batches};
-ghost use Rattle.link_files.specs.Inputs.{objects_in};
+ghost use Rattle.link_db_files.specs.Inputs.{objects_in};
 ghost use Rattle.link_input.specs.InputFiles.{batch_of};
-ghost use Rattle.link_loader.specs.Holds.{platform_of};
+ghost use Rattle.link_db_texts.specs.Holds.{platform_of};
 ghost use Rattle.link_manifest.specs.Checked.{HasFewBatches, HasGroupSize, IsGroupSize};
 ghost use Rattle.link_manifest.specs.FaultText.{fault_text};
 ghost use Rattle.link_rules.specs.declared.refusal.LinkError.TheVariants.{Memory};
 ghost use Rattle.link_rules.specs.Places.{Bytes};
 ghost use Rattle.link_rules.specs.Report.{refusal_text};
 ghost use Rattle.link_rules.specs.World.{world_of};
-ghost use Rattle.link_streams.specs.Streams.{IsAtEnd, GivesAtMost, Takes, TakesPart, Rose};
+ghost use Rattle.link_program_streams.specs.Streams.{IsAtEnd, GivesAtMost, Takes, TakesPart, Rose};
 ghost use Rattle.link_program.specs.Grammar.{IsInRange, IsLink, ReadsNothing};
 ghost use Rattle.link_program.specs.Outcome.{error_line, IsSummary, IsTextOf, IsLinkText, IsTextFor, IsDue, IsWorldText, given_of, objects_given, told_text, world_of_manifest};
 
 use crate::command::{Command, command_of};
 use crate::status::Status;
 use crate::word::Word;
-use link_answer::Linked;
-use link_bulk::bulk_manifest;
 use link_claim::OpenGate;
 use link_core::link_batches;
+use link_core_answer::Linked;
 use link_input::{Inputs, Platform, World};
 use link_manifest::{
     MAX_BYTES, Manifest, ManifestError, ManifestFault, Problem, manifest_leaking_tree,
 };
+use link_manifest_bulk::bulk_manifest;
 use link_names::Seq;
+use link_program_streams::{ReadAllError, Sink, Source, read_all, write_all};
 use link_report::{refusal_text, report_text, summary_text};
 use link_rules::LinkError;
 use link_script::Plain;
-use link_streams::{ReadAllError, Sink, Source, read_all, write_all};
 use std::alloc::{AllocError, Global};
 use std::thread::Threads;
 

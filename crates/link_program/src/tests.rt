@@ -5,7 +5,7 @@ ghost use Rattle.std.specs.Prelude.{◌<◌};
 use crate::run::run;
 use crate::status::Status;
 use crate::word::Word;
-use link_streams::{MemorySink, MemorySource};
+use link_program_streams::{MemorySink, MemorySource};
 use std::alloc::{AllocError, Global};
 use std::test::Fail;
 use std::thread::Threads;

@@ -4,8 +4,8 @@ ghost use Rattle.std.specs.Prelude.{◌≡◌, ◌==◌, count_by, not};
 ghost use Rattle.link_input.specs.Limits.{total};
 ghost use Rattle.link_report.specs.Summary.{comdat_count};
 
-use link_comdat::Candidate;
 use link_input::{ParsedInputObject, Platform, SectionGroup};
+use link_resolve_comdat::Candidate;
 
 /// How many of the objects don't stand first.
 pub(crate) fn member_count<P: Platform>(objects: &[Candidate<'_, P>]) -> usize

@@ -4,13 +4,13 @@ ghost use Rattle.std.specs.Prelude.{◌≡◌, ◌++◌, OnOk, codes, decimal, m
 ghost use Rattle.std.specs.List.{flat_map};
 ghost use Rattle.link_flags.specs.FlagText.{flags_text};
 ghost use Rattle.link_rules.specs.Report.{loaded_line, kept_line, symbol_name, version_line, version_text, undefined_line, missing_line};
-ghost use Rattle.link_answer.specs.Parts.{told_object};
+ghost use Rattle.link_core_answer.specs.Parts.{told_object};
 
-use link_comdat::Candidate;
 use link_flags::ValueFlags;
 use link_ids::SymbolId;
 use link_input::Platform;
 use link_names::{Name, NameView};
+use link_resolve_comdat::Candidate;
 use link_rules::{GivenVersion, KeptGroup};
 use std::alloc::AllocError;
 use std::fmt::Write;

@@ -8,7 +8,7 @@ ghost use Rattle.link_rules.specs.declared.refusal.LinkError.TheVariants.{Script
 use link_input::TooManyKind;
 use link_names::Name;
 use link_rules::{LinkError, ScriptOrigin};
-use link_syntax::ScriptError;
+use link_script_syntax::ScriptError;
 use std::alloc::{AllocError, Global};
 use std::fmt::Write;
 

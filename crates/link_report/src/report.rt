@@ -5,18 +5,18 @@ ghost use Rattle.std.specs.List.{flat_map, slice_index_or};
 ghost use Rattle.link_rules.specs.Places.{each_from};
 ghost use Rattle.link_rules.specs.Report.{symbol_line, undefined_line, joined_lines, report_text};
 ghost use Rattle.link_db.specs.Database.{symbol_names};
-ghost use Rattle.link_answer.specs.Parts.{answer_of, undefined_name};
-ghost use Rattle.link_answer.specs.Seen.{seen};
+ghost use Rattle.link_core_answer.specs.Parts.{answer_of, undefined_name};
+ghost use Rattle.link_core_answer.specs.Seen.{seen};
 
 use crate::lines::{
     write_kept_lines, write_loaded_lines, write_missing_lines, write_symbol_line,
     write_undefined_line, write_version_lines,
 };
-use link_answer::Linked;
+use link_core_answer::Linked;
+use link_db_symbols::symbols;
 use link_ids::SymbolId;
 use link_input::Platform;
 use link_names::NameView;
-use link_symbols::symbols;
 use std::alloc::{AllocError, Global};
 
 /// The report of a link, line by line: each loaded object, each COMDAT group that was kept, each

@@ -1,13 +1,13 @@
 //! The summary of a link.
 
 ghost use Rattle.std.specs.Prelude.{◌≡◌, ◌++◌, IfOk, OnOk, string_bytes};
-ghost use Rattle.link_files.specs.Inputs.{objects_in};
-ghost use Rattle.link_answer.specs.Parts.{answer_of};
-ghost use Rattle.link_answer.specs.Seen.{seen};
+ghost use Rattle.link_db_files.specs.Inputs.{objects_in};
+ghost use Rattle.link_core_answer.specs.Parts.{answer_of};
+ghost use Rattle.link_core_answer.specs.Seen.{seen};
 ghost use Rattle.link_report.specs.Summary.{count_line, discarded_comdats, loaded_members, summary_text};
 
 use crate::counts::{comdats_of_all, member_count};
-use link_answer::Linked;
+use link_core_answer::Linked;
 use link_input::Platform;
 use std::alloc::{AllocError, Global};
 use std::fmt::Write;

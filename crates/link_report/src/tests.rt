@@ -4,7 +4,7 @@ use crate::refusal_text;
 use link_input::TooManyKind;
 use link_names::{Name, Seq};
 use link_rules::{LinkError, ScriptOrigin};
-use link_syntax::{ScriptError, ScriptErrorKind};
+use link_script_syntax::{ScriptError, ScriptErrorKind};
 use std::alloc::{AllocError, Global};
 use std::test::Fail;
 

@@ -10,10 +10,10 @@ use Rattle.link_rules.specs.Names.{definitions_of, is_listed, is_version_listed,
 use Rattle.link_rules.specs.Places.{Bytes, behind_head}
 use Rattle.link_rules.specs.Rules.{PlatformRules, rules_of}
 use Rattle.link_rules.specs.World.{Stage, nothing_earlier}
-use Rattle.link_rivals.proofs.NameLists.{plain-lists, versioned-lists, versioned_in}
-use Rattle.link_rivals.specs.Lists.{AreLists}
-use Rattle.link_files.specs.GroupFiles.{symbols_in}
-use Rattle.link_mapping.specs.Mapped.{later_in, later_versioned_in, later_with}
+use Rattle.link_resolve_rivals.proofs.NameLists.{plain-lists, versioned-lists, versioned_in}
+use Rattle.link_resolve_rivals.specs.Lists.{AreLists}
+use Rattle.link_db_files.specs.GroupFiles.{symbols_in}
+use Rattle.link_db_mapping.specs.Mapped.{later_in, later_versioned_in, later_with}
 use Rattle.link_db.specs.Database.{Database}
 use Rattle.link_resolve.specs.Known.{IsListed}
 use Rattle.link_resolve.specs.Lists.{plain_rivals, versioned_rivals}

@@ -6,12 +6,12 @@ use Rattle.std.proofs.lemmas.List.{map-append}
 use Rattle.link_names.specs.NameText.{name_text}
 use Rattle.link_input.specs.ObjectFile.{ObjectFile}
 use Rattle.link_input.specs.Symbols.{Symbol}
-use Rattle.link_groups.specs.declared.group.Group.{Group}
-use Rattle.link_files.specs.Inputs.{objects_in}
-use Rattle.link_loader.proofs.Forced.{rest_is}
-use Rattle.link_discarding.proofs.Placing.{objects-first}
-use Rattle.link_rivals.specs.Settled.{clash_line, name_at}
-use Rattle.link_rivals.specs.declared.settling.Clash.{Clash}
+use Rattle.link_input_groups.specs.declared.group.Group.{Group}
+use Rattle.link_db_files.specs.Inputs.{objects_in}
+use Rattle.link_db_texts.proofs.Forced.{rest_is}
+use Rattle.link_resolve_discarded.proofs.Placing.{objects-first}
+use Rattle.link_resolve_rivals.specs.Settled.{clash_line, name_at}
+use Rattle.link_resolve_rivals.specs.declared.settling.Clash.{Clash}
 use Rattle.link_rules.specs.Places.{Bytes}
 use Rattle.link_rules.specs.Refusals.{file_name}
 use Rattle.link_rules.specs.World.{Stage}

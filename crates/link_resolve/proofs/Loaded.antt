@@ -1,11 +1,11 @@
 -- What is known once the objects of a batch are loaded.
 use Rattle.std.proofs.Common.{◌≡◌, ◌∙◌, ◌++◌, ◌≤◌, ℕ, Bool, List, [], ◌∷◌, Option, Some, None, Result, Ok, Err, IfOk, ap, append-nil, arith, length, map, refl, subst, sym, if◌then◌else◌}
 use Rattle.std.proofs.lemmas.List.{length-map}
-use Rattle.link_comdat.specs.Selected.{selected}
-use Rattle.link_discarding.proofs.Same.{same-strengths}
-use Rattle.link_discarding.specs.Discarded.{discarded_in}
-use Rattle.link_discarding.specs.Indexed.{AreGroupsOf, IndexedGroups, index_at, index_of}
-use Rattle.link_discarding.specs.Regular.{regular_among}
+use Rattle.link_resolve_comdat.specs.Selected.{selected}
+use Rattle.link_resolve_discarded.proofs.Same.{same-strengths}
+use Rattle.link_resolve_discarded.specs.Discarded.{discarded_in}
+use Rattle.link_resolve_discarded.specs.Indexed.{AreGroupsOf, IndexedGroups, index_at, index_of}
+use Rattle.link_resolve_discarded.specs.Regular.{regular_among}
 use Rattle.link_flags.specs.declared.strength.SymbolStrength.{SymbolStrength}
 use Rattle.link_input.specs.ObjectFile.{ObjectFile}
 use Rattle.link_input.specs.Symbols.{Symbol}
@@ -15,19 +15,19 @@ use Rattle.link_rules.specs.Loading.{IsLoaded}
 use Rattle.link_rules.specs.Places.{Bytes, each_from, is_empty}
 use Rattle.link_rules.specs.Selection.{Selection, loaded_target, selection_of, surviving_origin, surviving_strengths}
 use Rattle.link_rules.specs.World.{Stage}
-use Rattle.link_files.specs.GroupFiles.{symbols_in}
-use Rattle.link_files.specs.Inputs.{objects_in, scripts_in}
-use Rattle.link_loader.specs.Holds.{AreRulesOf}
-use Rattle.link_loader.specs.ReadTexts.{ReadTexts}
-use Rattle.link_mapping.specs.Mapped.{AreListed, Mapped, mapping_of}
+use Rattle.link_db_files.specs.GroupFiles.{symbols_in}
+use Rattle.link_db_files.specs.Inputs.{objects_in, scripts_in}
+use Rattle.link_db_texts.specs.Holds.{AreRulesOf}
+use Rattle.link_db_texts.specs.ReadTexts.{ReadTexts}
+use Rattle.link_db_mapping.specs.Mapped.{AreListed, Mapped, mapping_of}
 use Rattle.link_rules.specs.Refusals.{empty_refusal}
 use Rattle.link_rules.specs.declared.refusal.LinkError.TheVariants.{NoInputs}
 use Rattle.link_rules.specs.Rules.{PlatformRules}
-use Rattle.link_stage.specs.AtStage.{IsAtStage}
-use Rattle.link_symbols.specs.Lookups.{IsSelectionOf}
+use Rattle.link_db_stage.specs.AtStage.{IsAtStage}
+use Rattle.link_db_symbols.specs.Lookups.{IsSelectionOf}
 use Rattle.link_db.specs.Database.{Database, symbol_names}
-use Rattle.link_work.specs.Answer.{AreTargetsRead}
-use Rattle.link_work.specs.declared.found.FoundItem.{FoundItem}
+use Rattle.link_resolve_extraction.specs.Answer.{AreTargetsRead}
+use Rattle.link_resolve_extraction.specs.declared.found.FoundItem.{FoundItem}
 use Rattle.link_resolve.specs.Known.{IsLoadedSelection, IsSelection, Known}
 use Rattle.link_resolve.specs.Resolving.{IsNextStage, Resolving, known_of}
 

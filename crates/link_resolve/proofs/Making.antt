@@ -3,18 +3,18 @@ use Rattle.std.proofs.Common.{◌≡◌, ◌+◌, ◌∙◌, ◌++◌, List, [],
 use Rattle.std.specs.List.{filter_map, flat_map}
 use Rattle.std.proofs.lemmas.List.Concat.{flat_map-append}
 use Rattle.std.proofs.lemmas.List.Elements.{filter_map-append}
-use Rattle.link_files.proofs.Changing.{names-kept, symbols-kept, symbols-last, with-id-last}
-use Rattle.link_files.specs.Adding.{EndsInSynthetic, synthetic_group, with_id, with_len}
-use Rattle.link_files.specs.GroupFiles.{symbols_in}
-use Rattle.link_files.specs.HeldFiles.{names_in}
-use Rattle.link_files.specs.Inputs.{object_of, objects_in}
-use Rattle.link_groups.specs.declared.group.Group.{Group}
-use Rattle.link_groups.specs.declared.group.Group.TheVariants as group
-use Rattle.link_groups.specs.declared.sequenced.SyntheticSymbols.{SyntheticSymbols}
-use Rattle.link_groups.specs.Groups.{files_of, synthetic_file}
+use Rattle.link_db_files.proofs.Changing.{names-kept, symbols-kept, symbols-last, with-id-last}
+use Rattle.link_db_files.specs.Adding.{EndsInSynthetic, synthetic_group, with_id, with_len}
+use Rattle.link_db_files.specs.GroupFiles.{symbols_in}
+use Rattle.link_db_files.specs.HeldFiles.{names_in}
+use Rattle.link_db_files.specs.Inputs.{object_of, objects_in}
+use Rattle.link_input_groups.specs.declared.group.Group.{Group}
+use Rattle.link_input_groups.specs.declared.group.Group.TheVariants as group
+use Rattle.link_input_groups.specs.declared.sequenced.SyntheticSymbols.{SyntheticSymbols}
+use Rattle.link_input_groups.specs.Groups.{files_of, synthetic_file}
 use Rattle.link_input.specs.SequencedFiles.{SequencedFile}
 use Rattle.link_input.specs.Symbols.{Symbol}
-use Rattle.link_mapping.specs.Changes.{with_group}
+use Rattle.link_db_mapping.specs.Changes.{with_group}
 use Rattle.link_rules.specs.Places.{Bytes}
 use Rattle.link_db.specs.Database.{Database, HasTable, symbol_names}
 use Rattle.link_db.specs.Synthetic.{with_linker_symbol}

@@ -1,6 +1,6 @@
 -- What a version script of the Rust form makes of flags.
 use Rattle.std.proofs.Common.{◌≡◌, ◌∙◌, ℕ, List, Option, Some, None, ap, filter_map, map, refl}
-use Rattle.link_mapping.specs.Mapped.{mapping_of}
+use Rattle.link_db_mapping.specs.Mapped.{mapping_of}
 use Rattle.link_rules.specs.Marking.{marked_flags}
 use Rattle.link_rules.specs.Names.{Mapping, first_definition}
 use Rattle.link_rules.specs.Places.{Bytes, each_from}

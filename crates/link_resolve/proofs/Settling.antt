@@ -3,18 +3,18 @@ use Rattle.std.proofs.Common.{◌≡◌, ◌+◌, ◌<◌, ◌∙◌, ◌++◌, 
 use Rattle.std.specs.Prelude.{slice_get, slice_index_or, take}
 use Rattle.std.specs.Option.{option_map_or, option_or}
 use Rattle.std.proofs.lemmas.List.{length-map}
-use Rattle.link_files.specs.GroupFiles.{symbols_in}
-use Rattle.link_files.specs.HeldFiles.{HeldFiles, names_in}
+use Rattle.link_db_files.specs.GroupFiles.{symbols_in}
+use Rattle.link_db_files.specs.HeldFiles.{HeldFiles, names_in}
 use Rattle.link_input.specs.Symbols.{Symbol}
 use Rattle.link_rules.specs.Places.{Bytes, first_of}
 use Rattle.link_rules.specs.Rules.{PlatformRules}
 use Rattle.link_rules.specs.Selection.{Selection}
 use Rattle.link_rules.specs.Undefined.{Numbered, boundary_makers, is_boundary_maker, left_undefined, stays_undefined}
 use Rattle.std.specs.List.{enumerate_from}
-use Rattle.link_loader.proofs.Forced.{rest_is}
-use Rattle.link_mapping.specs.Keys.{plain_key}
-use Rattle.link_undefined.proofs.Numbering.{AreAt, all-at, filter-at, reverse-at}
-use Rattle.link_undefined.specs.Records.{TellsOf}
+use Rattle.link_db_texts.proofs.Forced.{rest_is}
+use Rattle.link_db_mapping.specs.Keys.{plain_key}
+use Rattle.link_resolve_undefined.proofs.Numbering.{AreAt, all-at, filter-at, reverse-at}
+use Rattle.link_resolve_undefined.specs.Records.{TellsOf}
 use Rattle.link_db.specs.Database.{Database, symbol_names}
 use Rattle.link_resolve.specs.Known.{IsSelection, Known}
 use Rattle.link_resolve.specs.Settled.{IsSettled}

@@ -4,12 +4,12 @@ use Rattle.std.proofs.lemmas.List.{at_drop_all, at_drop_more}
 use Rattle.std.specs.Int.Bits.{or_self, or_zero_l, or_zero_r}
 use Rattle.std.proofs.lemmas.List.{length-map}
 use Rattle.std.proofs.lemmas.Simd.{map-map}
-use Rattle.link_undefined.proofs.Passing.{signed-all}
+use Rattle.link_resolve_undefined.proofs.Passing.{signed-all}
 use Rattle.link_closure.specs.Workload.{bits_for}
 use Rattle.link_closure.specs.declared.workload.Mark.{Mark}
 use Rattle.link_flags.specs.FlagWords.{numbers_of}
 use Rattle.link_flags.specs.declared.value_flags.RawFlags.{RawFlags}
-use Rattle.link_symbols.proofs.Listed.{each-length}
+use Rattle.link_db_symbols.proofs.Listed.{each-length}
 use Rattle.link_rules.specs.Flags.{flags_if}
 use Rattle.link_flags.specs.FlagBits as flag
 use Rattle.link_input.specs.declared.options.OutputKind.{OutputKind}
@@ -22,9 +22,9 @@ use Rattle.link_rules.specs.Selection.{Selection}
 use Rattle.link_rules.specs.Undefined.{final_table, resolved}
 use Rattle.link_rules.specs.Visibility.{narrowed_flags}
 use Rattle.link_rules.specs.World.{first_symbol_of}
-use Rattle.link_undefined.specs.Flagged.{flagged, new_words, with_signatures}
-use Rattle.link_marking.specs.Marks.{mark_on, with_marks}
-use Rattle.link_marking.proofs.Joined.{marked-both, marked-none}
+use Rattle.link_resolve_undefined.specs.Flagged.{flagged, new_words, with_signatures}
+use Rattle.link_resolve_marks.specs.Marks.{mark_on, with_marks}
+use Rattle.link_resolve_marks.proofs.Joined.{marked-both, marked-none}
 
 -- one mark of some bits, or none, and a further one are one
 one-or-both : (a b : Bool) (bits : ℕ) → bit_or (if a then bits else 0) (flags_if b bits) ≡ flags_if (a || b) bits

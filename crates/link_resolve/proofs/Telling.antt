@@ -3,15 +3,15 @@ use Rattle.std.proofs.Common.{◌≡◌, ◌∙◌, ◌++◌, List, [], Bool, ap
 use Rattle.std.specs.Prelude.{take}
 use Rattle.link_input.specs.declared.options.Options.{Options}
 use Rattle.link_input.specs.Symbols.{Symbol, is_shared}
-use Rattle.link_rivals.specs.Survivors.{Tells}
-use Rattle.link_rivals.specs.declared.survivors.Survivors.{Survivors}
+use Rattle.link_resolve_rivals.specs.Survivors.{Tells}
+use Rattle.link_resolve_rivals.specs.declared.survivors.Survivors.{Survivors}
 use Rattle.link_rules.specs.Places.{Bytes}
 use Rattle.link_rules.specs.Refusals.{duplicate_lines, plain_duplicates, versioned_duplicates}
 use Rattle.link_rules.specs.Rivals.{is_in_loaded_regular, plain_table}
 use Rattle.link_rules.specs.Rules.{PlatformRules, Rules}
 use Rattle.link_rules.specs.Selection.{Selection}
 use Rattle.link_rules.specs.Sorting.{sorted_texts}
-use Rattle.link_files.specs.GroupFiles.{symbols_in}
+use Rattle.link_db_files.specs.GroupFiles.{symbols_in}
 use Rattle.link_db.specs.Database.{Database}
 use Rattle.link_resolve.specs.Known.{IsSelection, Known}
 

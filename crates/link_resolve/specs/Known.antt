@@ -1,13 +1,13 @@
 -- What is known of a link once it is known which objects are loaded.
 use Rattle.std.specs.Prelude.{◌≡◌, ℕ, List, [], Bool, Option}
 use Rattle.link_flags.specs.declared.strength.SymbolStrength.{SymbolStrength}
-use Rattle.link_files.specs.GroupFiles.{symbols_in}
+use Rattle.link_db_files.specs.GroupFiles.{symbols_in}
 use Rattle.link_rules.specs.Places.{Bytes}
 use Rattle.link_rules.specs.Rules.{PlatformRules}
 use Rattle.link_rules.specs.Selection.{Selection}
-use Rattle.link_mapping.specs.Mapped.{AreListed}
+use Rattle.link_db_mapping.specs.Mapped.{AreListed}
 use Rattle.link_db.specs.Database.{Database}
-use Rattle.link_stage.specs.AtStage.{IsAtStage}
+use Rattle.link_db_stage.specs.AtStage.{IsAtStage}
 
 -- a mark for each loaded object, what the references of these stand for, and how strongly each symbol binds now
 pub record Known : Type 0 where

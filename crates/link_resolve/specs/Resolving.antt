@@ -9,10 +9,10 @@ use Rattle.link_rules.specs.Rules.{PlatformRules}
 use Rattle.link_rules.specs.Selection.{Selection, selection_of}
 use Rattle.link_rules.specs.World.{Stage}
 use Rattle.link_rules.specs.declared.refusal.LinkError.{LinkError}
-use Rattle.link_discarding.specs.Indexed.{IndexedGroups}
+use Rattle.link_resolve_discarded.specs.Indexed.{IndexedGroups}
 use Rattle.link_db.specs.Database.{Database}
 use Rattle.link_resolve.specs.Known.{Known}
-use Rattle.link_stage.specs.AtStage.{IsAtStage}
+use Rattle.link_db_stage.specs.AtStage.{IsAtStage}
 
 -- what a resolver knows: of the symbols, the groups of the loaded regular objects, and the words that threads shared as they read the last batch
 pub record Resolving : Type 0 where

@@ -1,9 +1,9 @@
 -- What is told of a selection once its rivals are settled, and what is left when the linker has made its symbols.
 use Rattle.std.specs.Prelude.{◌≡◌, ◌++◌, List}
-use Rattle.link_files.specs.GroupFiles.{symbols_in}
-use Rattle.link_files.specs.Inputs.{objects_in}
-use Rattle.link_loader.specs.Holds.{AreRulesOf}
-use Rattle.link_mapping.specs.Mapped.{mapping_of}
+use Rattle.link_db_files.specs.GroupFiles.{symbols_in}
+use Rattle.link_db_files.specs.Inputs.{objects_in}
+use Rattle.link_db_texts.specs.Holds.{AreRulesOf}
+use Rattle.link_db_mapping.specs.Mapped.{mapping_of}
 use Rattle.link_rules.specs.Names.{first_definition}
 use Rattle.link_rules.specs.Places.{Bytes}
 use Rattle.link_rules.specs.Rules.{PlatformRules}

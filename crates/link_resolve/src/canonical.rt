@@ -1,16 +1,16 @@
 //! The end of a link's resolution: what stands for undefined references, new symbols, and the flags of all symbols.
 
 ghost use Rattle.std.specs.Prelude.{◌≡◌, ◌+◌, ◌*◌, ◌<◌, ◌^◌, [], ℕ, All, IfOk, List, OnOk, length, map};
-ghost use Rattle.link_discarding.specs.Indexed.{AreGroupsOf};
-ghost use Rattle.link_files.specs.GroupFiles.{symbols_in};
-ghost use Rattle.link_files.specs.Inputs.{objects_in};
+ghost use Rattle.link_resolve_discarded.specs.Indexed.{AreGroupsOf};
+ghost use Rattle.link_db_files.specs.GroupFiles.{symbols_in};
+ghost use Rattle.link_db_files.specs.Inputs.{objects_in};
 ghost use Rattle.link_flags.specs.FlagWords.{numbers_of, words_of};
 ghost use Rattle.link_rules.specs.FinalFlags.{final_flags, signature_symbols};
 ghost use Rattle.link_rules.specs.Rivals.{two_steps, versioned_table};
 ghost use Rattle.link_rules.specs.Selection.{Selection};
 ghost use Rattle.link_rules.specs.Undefined.{boundary_makers, final_table, left_undefined, resolved};
 ghost use Rattle.link_rules.specs.Visibility.{narrowed_flags};
-ghost use Rattle.link_undefined.specs.UndefinedNames.{undefined_references};
+ghost use Rattle.link_resolve_undefined.specs.UndefinedNames.{undefined_references};
 ghost use Rattle.link_db.specs.Database.{HasTable, symbol_names};
 ghost use Rattle.link_db.specs.Seen.{seen};
 ghost use Rattle.link_resolve.specs.Settled.{IsSettled};
@@ -19,11 +19,11 @@ use crate::resolver::Resolver;
 use crate::signatures::mark_signatures;
 use crate::undefined::canonicalise_references;
 use link_db::SymbolDb;
-use link_discarding::{LoadedGroups, signature_ids};
 use link_flags::PerSymbolFlags;
 use link_ids::SymbolId;
 use link_input::{OutputKind, Platform};
 use link_names::Name;
+use link_resolve_discarded::{LoadedGroups, signature_ids};
 use std::alloc::{AllocError, Global};
 
 /// The symbols that name the groups of the output: there are such groups where it is an object again.

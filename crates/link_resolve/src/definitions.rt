@@ -1,15 +1,15 @@
 //! What names are mapped to in a database.
 
 ghost use Rattle.std.specs.Prelude.{◌<◌, IfSome, length};
-ghost use Rattle.link_mapping.specs.Mapped.{mapping_of};
+ghost use Rattle.link_db_mapping.specs.Mapped.{mapping_of};
 ghost use Rattle.link_rules.specs.Places.{Bytes};
 ghost use Rattle.link_db.specs.Database.{symbol_names};
 ghost use Rattle.link_db.specs.Seen.{seen};
 
 use link_db::SymbolDb;
+use link_db_symbols::FirstDefinitions;
 use link_ids::SymbolId;
 use link_input::Platform;
-use link_symbols::FirstDefinitions;
 
 /// What names are mapped to in a database.
 #[derive(Drop)]
@@ -18,7 +18,7 @@ pub struct Definitions<'a, P: Platform> {
 }
 
 impl<'a, P: Platform> FirstDefinitions for Definitions<'a, P> {
-    ghost use Rattle.link_mapping.specs.Mapped.{mapping_of};
+    ghost use Rattle.link_db_mapping.specs.Mapped.{mapping_of};
     ghost use Rattle.link_db.specs.Seen.{seen};
 
     ghost mapping = { λ names. mapping_of (seen names.db.now).mapping };

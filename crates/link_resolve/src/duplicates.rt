@@ -3,11 +3,11 @@
 ghost use Rattle.std.specs.Prelude.{◌≡◌, ◌++◌, [], All, IfOk, OnOk, codes, length, map, slice_get};
 ghost use Rattle.std.specs.Option.{option_and_then, option_map_or};
 ghost use Rattle.link_names.specs.NameText.{name_text};
-ghost use Rattle.link_files.specs.GroupFiles.{symbols_in};
-ghost use Rattle.link_files.specs.Inputs.{objects_in};
+ghost use Rattle.link_db_files.specs.GroupFiles.{symbols_in};
+ghost use Rattle.link_db_files.specs.Inputs.{objects_in};
 ghost use Rattle.link_input.specs.Symbols.{object_in};
-ghost use Rattle.link_loader.specs.Causes.{TellsCause};
-ghost use Rattle.link_rivals.specs.Settled.{IsInside, clash_line};
+ghost use Rattle.link_db_texts.specs.Causes.{TellsCause};
+ghost use Rattle.link_resolve_rivals.specs.Settled.{IsInside, clash_line};
 ghost use Rattle.link_rules.specs.Refusals.{file_name, unless_none};
 ghost use Rattle.link_rules.specs.Sorting.{sorted_texts};
 ghost use Rattle.link_rules.specs.World.{Stage};
@@ -16,13 +16,13 @@ ghost use Rattle.link_db.specs.Seen.{seen};
 ghost use Rattle.link_resolve.specs.Known.{IsListed};
 
 use link_db::SymbolDb;
-use link_groups::{Group, SequencedInputObject};
 use link_ids::SymbolId;
 use link_input::Platform;
-use link_loading::objects_of;
-use link_marking::object_places;
+use link_input_groups::{Group, SequencedInputObject};
 use link_names::{Name, NameView, Seq};
-use link_rivals::Clash;
+use link_resolve_marks::object_places;
+use link_resolve_requests::objects_of;
+use link_resolve_rivals::Clash;
 use link_rules::LinkError;
 use std::alloc::{AllocError, Global};
 

@@ -2,14 +2,14 @@
 
 ghost use Rattle.std.specs.Prelude.{◌≡◌, false};
 ghost use Rattle.std.specs.List.{slice_index_or};
-ghost use Rattle.link_mapping.specs.Mapped.{AreHeadsMarked};
+ghost use Rattle.link_db_mapping.specs.Mapped.{AreHeadsMarked};
 ghost use Rattle.link_db.specs.Seen.{seen};
 ghost use Rattle.link_resolve.specs.Known.{IsListed};
 
 use link_db::SymbolDb;
 use link_ids::SymbolId;
 use link_input::Platform;
-use link_rivals::RivalLists;
+use link_resolve_rivals::RivalLists;
 
 /// The definitions of plain names. Most names have one definition at most: so a mark tells which symbols are worth a look-up of their names.
 #[derive(Drop)]
@@ -23,7 +23,7 @@ pub struct PlainLists<'a, P: Platform> {
 
 impl<'a, P: Platform> RivalLists for PlainLists<'a, P> {
     ghost use Rattle.std.specs.Prelude.{length};
-    ghost use Rattle.link_files.specs.GroupFiles.{symbols_in};
+    ghost use Rattle.link_db_files.specs.GroupFiles.{symbols_in};
     ghost use Rattle.link_db.specs.Seen.{seen};
     ghost use Rattle.link_resolve.specs.Lists.{plain_rivals};
 
@@ -51,7 +51,7 @@ pub struct VersionedLists<'a, P: Platform> {
 
 impl<'a, P: Platform> RivalLists for VersionedLists<'a, P> {
     ghost use Rattle.std.specs.Prelude.{length};
-    ghost use Rattle.link_files.specs.GroupFiles.{symbols_in};
+    ghost use Rattle.link_db_files.specs.GroupFiles.{symbols_in};
     ghost use Rattle.link_db.specs.Seen.{seen};
     ghost use Rattle.link_resolve.specs.Lists.{versioned_rivals};
 

@@ -2,12 +2,12 @@
 
 ghost use Rattle.std.specs.Prelude.{◌≡◌, ℕ, ◌<◌, [], OnErr, OnOk, length};
 ghost use Rattle.link_rules.specs.Selection.{Selection, surviving_strength};
-ghost use Rattle.link_symbols.specs.Lookups.{AreBelow};
-ghost use Rattle.link_work.specs.Answer.{AreFoundBelow, AreTargetsRead};
+ghost use Rattle.link_db_symbols.specs.Lookups.{AreBelow};
+ghost use Rattle.link_resolve_extraction.specs.Answer.{AreFoundBelow, AreTargetsRead};
 
 use link_flags::SymbolStrength;
 use link_ids::SymbolId;
-use link_work::{FoundItem, write_targets};
+use link_resolve_extraction::{FoundItem, write_targets};
 use std::alloc::{AllocError, Global};
 use std::marker::Model;
 

@@ -1,15 +1,15 @@
 //! Which of several definitions of a name counts, once it is known which objects are loaded.
 
 ghost use Rattle.std.specs.Prelude.{◌≡◌, ◌++◌, ◌<◌, ◌≤◌, ◌^◌, All, IfOk, OnErr, OnOk, length, map, take};
-ghost use Rattle.link_files.specs.GroupFiles.{symbols_in};
-ghost use Rattle.link_files.specs.Inputs.{objects_in};
+ghost use Rattle.link_db_files.specs.GroupFiles.{symbols_in};
+ghost use Rattle.link_db_files.specs.Inputs.{objects_in};
 ghost use Rattle.link_flags.specs.FlagWords.{numbers_of, words_of};
 ghost use Rattle.link_input.specs.Symbols.{is_shared, visibility_in};
-ghost use Rattle.link_loader.specs.Causes.{TellsCause};
-ghost use Rattle.link_loader.specs.Holds.{platform_of};
-ghost use Rattle.link_rivals.specs.Settled.{IsInside, clash_line};
-ghost use Rattle.link_rivals.specs.Survivors.{Tells};
-ghost use Rattle.link_mapping.specs.Mapped.{AreHeadsMarked};
+ghost use Rattle.link_db_texts.specs.Causes.{TellsCause};
+ghost use Rattle.link_db_texts.specs.Holds.{platform_of};
+ghost use Rattle.link_resolve_rivals.specs.Settled.{IsInside, clash_line};
+ghost use Rattle.link_resolve_rivals.specs.Survivors.{Tells};
+ghost use Rattle.link_db_mapping.specs.Mapped.{AreHeadsMarked};
 ghost use Rattle.link_rules.specs.Places.{Bytes, each_from};
 ghost use Rattle.link_rules.specs.Refusals.{duplicate_lines, plain_duplicates, unless_none, versioned_duplicates};
 ghost use Rattle.link_rules.specs.Rivals.{plain_table, reference_table, versioned_table};
@@ -29,8 +29,8 @@ use link_db::SymbolDb;
 use link_flags::{PerSymbolFlags, Visibility};
 use link_ids::SymbolId;
 use link_input::Platform;
-use link_marking::{RivalColumns, held_symbols, rival_columns};
-use link_rivals::{Clash, Survivors, narrow, settle};
+use link_resolve_marks::{RivalColumns, held_symbols, rival_columns};
+use link_resolve_rivals::{Clash, Survivors, narrow, settle};
 use link_rules::LinkError;
 use std::alloc::{AllocError, Global};
 

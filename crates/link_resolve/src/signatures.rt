@@ -3,7 +3,7 @@
 ghost use Rattle.std.specs.Prelude.{◌≡◌, ◌<◌, ◌∷◌, [], All, length, map};
 ghost use Rattle.link_flags.specs.FlagBits as flag;
 ghost use Rattle.link_flags.specs.FlagWords.{numbers_of, words_of};
-ghost use Rattle.link_marking.specs.Marks.{mark_on, with_marks};
+ghost use Rattle.link_resolve_marks.specs.Marks.{mark_on, with_marks};
 ghost use Rattle.link_rules.specs.Rivals.{two_steps};
 ghost use Rattle.link_db.specs.Database.{HasTable, symbol_names};
 ghost use Rattle.link_db.specs.Seen.{seen};
@@ -12,7 +12,7 @@ use link_db::SymbolDb;
 use link_flags::{PerSymbolFlags, ValueFlags};
 use link_ids::SymbolId;
 use link_input::Platform;
-use link_marking::mark_symbol;
+use link_resolve_marks::mark_symbol;
 
 /// Says of what a symbol means that it names a group.
 fn mark_signature<P: Platform>(db: &SymbolDb<P>, id: SymbolId, flags: &mut PerSymbolFlags)

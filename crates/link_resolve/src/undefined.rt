@@ -1,16 +1,16 @@
 //! What stands for the references that stay undefined, over a database.
 
 ghost use Rattle.std.specs.Prelude.{◌≡◌, ◌+◌, ◌*◌, ◌++◌, ◌<◌, ◌≤◌, ◌^◌, [], All, IfOk, OnOk, length, map, slice_index_or};
-ghost use Rattle.link_files.specs.Adding.{EndsInSynthetic};
-ghost use Rattle.link_files.specs.GroupFiles.{symbols_in};
-ghost use Rattle.link_files.specs.Inputs.{objects_in};
+ghost use Rattle.link_db_files.specs.Adding.{EndsInSynthetic};
+ghost use Rattle.link_db_files.specs.GroupFiles.{symbols_in};
+ghost use Rattle.link_db_files.specs.Inputs.{objects_in};
 ghost use Rattle.link_flags.specs.FlagWords.{numbers_of, words_of};
 ghost use Rattle.link_rules.specs.Rivals.{versioned_table};
 ghost use Rattle.link_rules.specs.Selection.{Selection};
 ghost use Rattle.link_rules.specs.Undefined.{boundary_makers, final_table, left_undefined, resolved as resolution};
 ghost use Rattle.link_rules.specs.Visibility.{narrowed_flags};
-ghost use Rattle.link_undefined.specs.Flagged.{flagged, new_words};
-ghost use Rattle.link_undefined.specs.UndefinedNames.{undefined_references};
+ghost use Rattle.link_resolve_undefined.specs.Flagged.{flagged, new_words};
+ghost use Rattle.link_resolve_undefined.specs.UndefinedNames.{undefined_references};
 ghost use Rattle.link_db.specs.Database.{HasTable, symbol_names};
 ghost use Rattle.link_db.specs.Seen.{seen};
 ghost use Rattle.link_resolve.specs.Settled.{HasMade, IsSettled};
@@ -22,7 +22,7 @@ use link_flags::PerSymbolFlags;
 use link_ids::{SymbolId, SymbolIdRange};
 use link_input::Platform;
 use link_names::Name;
-use link_undefined::{
+use link_resolve_undefined::{
     AskedNames, flag_undefined, point_undefined, references_left, undefined_references,
 };
 use std::alloc::{AllocError, Global};

@@ -4,8 +4,8 @@ ghost use Rattle.std.specs.Prelude.{◌≡◌, ◌&&◌, ◌++◌, ◌<◌, IfOk
 ghost use Rattle.link_input.specs.Entries.{is_local};
 ghost use Rattle.link_input.specs.Outputs.{is_shared_object};
 ghost use Rattle.link_input.specs.Symbols.{entry_passes};
-ghost use Rattle.link_loader.specs.Causes.{TellsCause};
-ghost use Rattle.link_loader.specs.Holds.{AreRulesOf, platform_of};
+ghost use Rattle.link_db_texts.specs.Causes.{TellsCause};
+ghost use Rattle.link_db_texts.specs.Holds.{AreRulesOf, platform_of};
 ghost use Rattle.link_rules.specs.Places.{Bytes};
 ghost use Rattle.link_rules.specs.Rivals.{is_in_loaded_regular};
 ghost use Rattle.link_rules.specs.Rules.{Rules};
@@ -19,12 +19,12 @@ ghost use Rattle.link_resolve.specs.Settled.{IsEnded};
 
 use crate::resolved::Resolved;
 use link_db::SymbolDb;
+use link_db_symbols::{SymbolOrigin, SymbolView, symbols};
 use link_ids::SymbolId;
 use link_input::{OutputKind, Platform};
 use link_names::{Name, NameView};
 use link_rules::{GivenVersion, LinkError};
 use link_script::{Demangler, UndefinedVersion};
-use link_symbols::{SymbolOrigin, SymbolView, symbols};
 use std::alloc::{AllocError, Global};
 
 /// Whether the output is a shared one.

@@ -7,22 +7,22 @@ use Rattle.std.specs.Str.{bytes_eq, chars}
 use Rattle.std.proofs.lemmas.Slice.Eq.{bytes_eq-Decides}
 use Rattle.std.proofs.lemmas.List.Elements.{Contains-append_left, Contains-append_right, Contains-append_cases}
 use Rattle.link_glob.specs.Glob.{does_match}
-use Rattle.link_syntax.specs.declared.body.Side.{Side}
-use Rattle.link_syntax.specs.declared.body.Side.TheVariants.{Global, Local}
+use Rattle.link_script_syntax.specs.declared.body.Side.{Side}
+use Rattle.link_script_syntax.specs.declared.body.Side.TheVariants.{Global, Local}
 use Rattle.link_script.specs.declared.export_list.ExportList.{ExportList}
-use Rattle.link_syntax.specs.declared.matcher.SymbolMatcher.{SymbolMatcher}
-use Rattle.link_syntax.specs.declared.matcher.ParsedSymbolMatcher.{ParsedSymbolMatcher}
-use Rattle.link_syntax.specs.declared.matcher.ParsedSymbolMatcher.TheVariants.{Single, Multiple, CxxMatchers}
-use Rattle.link_syntax.specs.declared.named.RawVersion.{RawVersion}
+use Rattle.link_script_syntax.specs.declared.matcher.SymbolMatcher.{SymbolMatcher}
+use Rattle.link_script_syntax.specs.declared.matcher.ParsedSymbolMatcher.{ParsedSymbolMatcher}
+use Rattle.link_script_syntax.specs.declared.matcher.ParsedSymbolMatcher.TheVariants.{Single, Multiple, CxxMatchers}
+use Rattle.link_script_syntax.specs.declared.named.RawVersion.{RawVersion}
 use Rattle.link_script.specs.declared.rules.Class.{Class}
 use Rattle.link_script.specs.declared.rules.Class.TheVariants.{Exact, Nonstar, Star, Every}
-use Rattle.link_syntax.specs.declared.script.RawScript.{RawScript}
+use Rattle.link_script_syntax.specs.declared.script.RawScript.{RawScript}
 use Rattle.link_script.specs.ExportList.{IsListed, ListHas}
 use Rattle.link_script.specs.Filter.{Filter, name, nonstar, star, every, filter_of, class_of, AreFilters, EntryHas, EntriesHave, entries_in}
 use Rattle.link_script.specs.Lookup.{Asked, name_of, text_of}
 use Rattle.link_script.specs.Rank.{Fits, Place, filters_in, IsMatch, strength, side_order, exact_order, NotAfter, Precedes, IsBest}
 use Rattle.link_script.specs.Script.{versions_in, of_rust_form, IsVersionBy, VersionBy}
-use Rattle.link_syntax.specs.Named.{raw_names}
+use Rattle.link_script_syntax.specs.Named.{raw_names}
 use Rattle.link_script.specs.VersionOf.{declared_as, IsVersionOf}
 use Rattle.link_rules.specs.Places.{Bytes, places_from, last_of, kept_if}
 use Rattle.link_rules.specs.Matching.{fits, patterns_of, entry_fits, place_of, section_matches, version_matches, all_matches, is_not_after, precedes, stronger, strongest, rank, regular_version, version_by}

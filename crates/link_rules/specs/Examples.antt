@@ -10,8 +10,8 @@ use Rattle.link_input.specs.declared.options.Options.{Options}
 use Rattle.link_input.specs.declared.options.OutputKind.TheVariants.{SharedObject}
 use Rattle.link_input.specs.Defaults.{default_options}
 use Rattle.link_input.specs.ObjectFile.{ObjectFile}
-use Rattle.link_syntax.specs.declared.fault.ScriptError.{ScriptError}
-use Rattle.link_syntax.specs.declared.fault.ScriptErrorKind.TheVariants.{Syntax}
+use Rattle.link_script_syntax.specs.declared.fault.ScriptError.{ScriptError}
+use Rattle.link_script_syntax.specs.declared.fault.ScriptErrorKind.TheVariants.{Syntax}
 use Rattle.link_rules.specs.Places.{Bytes}
 use Rattle.link_rules.specs.Rules.{Rules, rules_of, elf_like}
 use Rattle.link_rules.specs.World.{World, Stage, first_stage, world_with}

@@ -4,19 +4,19 @@ use Rattle.std.specs.Option.{option_map_or}
 use Rattle.std.specs.List.{flat_map, list_any, enumerate_from}
 use Rattle.std.specs.Str.{bytes_eq, chars}
 use Rattle.link_glob.specs.Glob.{does_match}
-use Rattle.link_syntax.specs.declared.body.Side.{Side}
-use Rattle.link_syntax.specs.declared.body.Side.TheVariants.{Global, Local}
-use Rattle.link_syntax.specs.declared.named.RawVersion.{RawVersion}
-use Rattle.link_syntax.specs.declared.matcher.ParsedSymbolMatcher.{ParsedSymbolMatcher}
-use Rattle.link_syntax.specs.declared.matcher.ParsedSymbolMatcher.TheVariants.{Single, Multiple, CxxMatchers}
+use Rattle.link_script_syntax.specs.declared.body.Side.{Side}
+use Rattle.link_script_syntax.specs.declared.body.Side.TheVariants.{Global, Local}
+use Rattle.link_script_syntax.specs.declared.named.RawVersion.{RawVersion}
+use Rattle.link_script_syntax.specs.declared.matcher.ParsedSymbolMatcher.{ParsedSymbolMatcher}
+use Rattle.link_script_syntax.specs.declared.matcher.ParsedSymbolMatcher.TheVariants.{Single, Multiple, CxxMatchers}
 use Rattle.link_script.specs.declared.rules.Class.{Class}
 use Rattle.link_script.specs.declared.rules.Class.TheVariants.{Exact}
-use Rattle.link_syntax.specs.declared.script.RawScript.{RawScript}
+use Rattle.link_script_syntax.specs.declared.script.RawScript.{RawScript}
 use Rattle.link_script.specs.Filter.{Filter, name, nonstar, star, every, filter_of, class_of}
 use Rattle.link_script.specs.Lookup.{Asked, name_of, text_of}
 use Rattle.link_script.specs.Rank.{Place, strength, side_order, exact_order}
 use Rattle.link_script.specs.Script.{versions_in, of_rust_form}
-use Rattle.link_syntax.specs.Named.{raw_names}
+use Rattle.link_script_syntax.specs.Named.{raw_names}
 use Rattle.link_script.specs.VersionOf.{Undeclared, matched, is_local_match, declared_as}
 use Rattle.link_rules.specs.Places.{Bytes, places_from, last_of}
 

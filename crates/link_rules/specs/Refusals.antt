@@ -7,9 +7,9 @@ use Rattle.link_input.specs.declared.world.ProcessedLinkerScript.{ProcessedLinke
 use Rattle.link_input.specs.ObjectFile.{ObjectFile}
 use Rattle.link_input.specs.InputFiles.{Batch}
 use Rattle.link_input.specs.Limits.{Counts, Excess, first_excess, section_total, with_boundaries}
-use Rattle.link_syntax.specs.declared.fault.ScriptError.{ScriptError}
-use Rattle.link_syntax.specs.ForcedName.{forced_name}
-use Rattle.link_syntax.specs.Script.{script_at}
+use Rattle.link_script_syntax.specs.declared.fault.ScriptError.{ScriptError}
+use Rattle.link_script_syntax.specs.ForcedName.{forced_name}
+use Rattle.link_script_syntax.specs.Script.{script_at}
 use Rattle.link_rules.specs.declared.refusal.ScriptOrigin.{ScriptOrigin}
 use Rattle.link_rules.specs.declared.refusal.ScriptOrigin.TheVariants.{VersionScript, ExportList, ForcedExport, LinkerScript}
 use Rattle.link_rules.specs.declared.refusal.LinkError.{LinkError}

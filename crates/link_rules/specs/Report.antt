@@ -4,7 +4,7 @@ use Rattle.std.specs.Option.{option_map_or}
 use Rattle.std.specs.List.{flat_map}
 use Rattle.link_names.specs.NameText.{name_text}
 use Rattle.link_flags.specs.FlagText.{flags_text}
-use Rattle.link_syntax.specs.ErrorText.{error_text}
+use Rattle.link_script_syntax.specs.ErrorText.{error_text}
 use Rattle.link_rules.specs.Linked.{LoadedObject, UndefinedName, Linked}
 use Rattle.link_rules.specs.declared.linked.KeptGroup.{KeptGroup}
 use Rattle.link_flags.specs.declared.value_flags.ValueFlags.{ValueFlags}

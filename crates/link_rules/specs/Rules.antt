@@ -8,16 +8,16 @@ use Rattle.link_input.specs.declared.options.Options.{Options}
 use Rattle.link_input.specs.declared.world.ProcessedLinkerScript.{ProcessedLinkerScript}
 use Rattle.link_input.specs.declared.world.Scripts.{Scripts}
 use Rattle.link_input.specs.Interposition.{keeps_place}
-use Rattle.link_syntax.specs.declared.fault.Fault.{Fault}
-use Rattle.link_syntax.specs.declared.fault.ScriptError.{ScriptError}
-use Rattle.link_syntax.specs.declared.matcher.ParsedSymbolMatcher.{ParsedSymbolMatcher}
-use Rattle.link_syntax.specs.declared.script.RawScript.{RawScript}
-use Rattle.link_syntax.specs.declared.script.RawScript.TheVariants.{Anonymous, Named}
-use Rattle.link_syntax.specs.ForcedName.{forced_name}
+use Rattle.link_script_syntax.specs.declared.fault.Fault.{Fault}
+use Rattle.link_script_syntax.specs.declared.fault.ScriptError.{ScriptError}
+use Rattle.link_script_syntax.specs.declared.matcher.ParsedSymbolMatcher.{ParsedSymbolMatcher}
+use Rattle.link_script_syntax.specs.declared.script.RawScript.{RawScript}
+use Rattle.link_script_syntax.specs.declared.script.RawScript.TheVariants.{Anonymous, Named}
+use Rattle.link_script_syntax.specs.ForcedName.{forced_name}
 use Rattle.link_script.specs.ListedNames.{ListedNames, no_names, gnu_names, macho_names}
 use Rattle.link_script.specs.Lookup.{asked}
 use Rattle.link_script.specs.RustForm.{listed_names}
-use Rattle.link_syntax.specs.Script.{script_at}
+use Rattle.link_script_syntax.specs.Script.{script_at}
 use Rattle.link_script.specs.Script.{of_rust_form}
 use Rattle.link_script.specs.VersionOf.{Undeclared}
 use Rattle.link_rules.specs.Places.{Bytes, first_of}

@@ -6,11 +6,11 @@ ghost use Rattle.link_input.specs.declared.symbol_entry.SymbolEntry.{SymbolEntry
 ghost use Rattle.link_input.specs.Checks.{first_fault};
 ghost use Rattle.link_input.specs.Entries.{is_undefined};
 ghost use Rattle.link_input.specs.ObjectFile.{ObjectFile};
-ghost use Rattle.link_syntax.specs.declared.body.Side.{Side};
+ghost use Rattle.link_script_syntax.specs.declared.body.Side.{Side};
 ghost use Rattle.link_script.specs.declared.export_list.ExportList.{ExportList};
-ghost use Rattle.link_syntax.specs.declared.matcher.ParsedSymbolMatcher.{ParsedSymbolMatcher};
-ghost use Rattle.link_syntax.specs.declared.named.RawVersion.{RawVersion};
-ghost use Rattle.link_syntax.specs.declared.script.RawScript.{RawScript};
+ghost use Rattle.link_script_syntax.specs.declared.matcher.ParsedSymbolMatcher.{ParsedSymbolMatcher};
+ghost use Rattle.link_script_syntax.specs.declared.named.RawVersion.{RawVersion};
+ghost use Rattle.link_script_syntax.specs.declared.script.RawScript.{RawScript};
 ghost use Rattle.link_script.specs.ExportList.{IsListed, ListHas};
 ghost use Rattle.link_script.specs.Filter.{Filter, EntriesHave};
 ghost use Rattle.link_script.specs.Lookup.{Asked};

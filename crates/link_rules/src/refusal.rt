@@ -2,7 +2,7 @@
 
 use link_input::TooManyKind;
 use link_names::{Name, Seq};
-use link_syntax::ScriptError;
+use link_script_syntax::ScriptError;
 use std::alloc::AllocError;
 
 /// Which text of a link a script is. Forced export names and linker scripts count from 0.

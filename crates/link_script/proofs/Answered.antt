@@ -1,18 +1,18 @@
 -- What a script's public calls answer, by the grammar.
 use Rattle.std.proofs.Common.{◌≡◌, ℕ, Bool, true, false, List, length, Option, None, Result, Ok, Err, refl, sym, subst, ◌∙◌}
 use Rattle.std.specs.Prelude.{IfOk, IfErr}
-use Rattle.link_syntax.specs.declared.fault.ScriptFault.{ScriptFault}
-use Rattle.link_syntax.specs.declared.fault.ScriptFault.TheVariants as faults
-use Rattle.link_syntax.specs.declared.script.RawScript.{RawScript}
-use Rattle.link_syntax.specs.declared.script.RawScript.TheVariants.{Anonymous, Named}
-use Rattle.link_syntax.specs.declared.fault.ScriptErrorKind.{ScriptErrorKind}
-use Rattle.link_syntax.specs.Faults.{IsFaultOf, IsRefusedWith, ScriptFails}
-use Rattle.link_syntax.specs.Grammar.{IsVersionScript}
-use Rattle.link_syntax.specs.Script.{script_at}
-use Rattle.link_syntax.proofs.Answered.{fault_is, refuses_by}
-use Rattle.link_syntax.proofs.Judged.{never_both, found}
-use Rattle.link_syntax.proofs.Places.{ok_same}
-use Rattle.link_syntax.proofs.ScriptLaws.{script_judged}
+use Rattle.link_script_syntax.specs.declared.fault.ScriptFault.{ScriptFault}
+use Rattle.link_script_syntax.specs.declared.fault.ScriptFault.TheVariants as faults
+use Rattle.link_script_syntax.specs.declared.script.RawScript.{RawScript}
+use Rattle.link_script_syntax.specs.declared.script.RawScript.TheVariants.{Anonymous, Named}
+use Rattle.link_script_syntax.specs.declared.fault.ScriptErrorKind.{ScriptErrorKind}
+use Rattle.link_script_syntax.specs.Faults.{IsFaultOf, IsRefusedWith, ScriptFails}
+use Rattle.link_script_syntax.specs.Grammar.{IsVersionScript}
+use Rattle.link_script_syntax.specs.Script.{script_at}
+use Rattle.link_script_syntax.proofs.Answered.{fault_is, refuses_by}
+use Rattle.link_script_syntax.proofs.Judged.{never_both, found}
+use Rattle.link_script_syntax.proofs.Places.{ok_same}
+use Rattle.link_script_syntax.proofs.ScriptLaws.{script_judged}
 use Rattle.link_script.specs.declared.script.VersionScript.{VersionScript}
 use Rattle.link_script.specs.declared.script.VersionScript.TheVariants.{Regular, Rust}
 use Rattle.link_script.specs.Lookup.{Asked}

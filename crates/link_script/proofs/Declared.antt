@@ -4,13 +4,13 @@ use Rattle.std.specs.Prelude.{slice_get}
 use Rattle.std.proofs.lemmas.Bool.{cases_lt, ne_eqb}
 use Rattle.std.proofs.lemmas.Option.{same_Some}
 use Rattle.std.proofs.lemmas.Slice.Eq.{bytes_eq-Decides}
-use Rattle.link_syntax.specs.declared.named.RawVersion.{RawVersion}
+use Rattle.link_script_syntax.specs.declared.named.RawVersion.{RawVersion}
 use Rattle.link_script.specs.declared.rules.Version.{Version}
 use Rattle.link_script.specs.Filter.{AreVersions}
 use Rattle.link_script.specs.Lookup.{Asked}
 use Rattle.link_script.specs.Rules.{best_match}
 use Rattle.link_script.specs.Rank.{filters_of, filters_in}
-use Rattle.link_syntax.specs.Named.{raw_names}
+use Rattle.link_script_syntax.specs.Named.{raw_names}
 use Rattle.link_script.specs.VersionOf.{Undeclared, version_names, IsVersionOf, is_named, last_named, declared_as, version_of}
 use Rattle.link_script.proofs.Best.{is_best, best_of_text}
 

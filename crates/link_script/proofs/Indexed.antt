@@ -7,8 +7,8 @@ use Rattle.std.proofs.lemmas.List.{append-nil, get_or_append_left, get_or_push, 
 use Rattle.std.proofs.lemmas.List.Elements.{All-weaker, filter_passes}
 use Rattle.std.proofs.lemmas.Option.{same_Some, slice_get_read, slice_get_within}
 use Rattle.std.proofs.lemmas.List.Quantifiers.{position-Some}
-use Rattle.link_syntax.specs.declared.body.Side.{Side}
-use Rattle.link_syntax.specs.declared.body.Side.TheVariants.{Global, Local}
+use Rattle.link_script_syntax.specs.declared.body.Side.{Side}
+use Rattle.link_script_syntax.specs.declared.body.Side.TheVariants.{Global, Local}
 use Rattle.link_script.specs.declared.rules.BasicMatchRules.{BasicMatchRules}
 use Rattle.link_script.specs.declared.rules.Version.{Version}
 use Rattle.link_script.specs.declared.rules.Class.{Class}

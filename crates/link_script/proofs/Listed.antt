@@ -2,7 +2,7 @@
 use Rattle.std.proofs.Common.{◌≡◌, ℕ, List, [], ◌∷◌, ◌++◌, Some, None, sym, ap, ◌∙◌}
 use Rattle.std.proofs.lemmas.List.{append-nil}
 use Rattle.std.proofs.lemmas.List.Elements.{filter_map-append}
-use Rattle.link_syntax.specs.declared.matcher.ParsedSymbolMatcher.{ParsedSymbolMatcher}
+use Rattle.link_script_syntax.specs.declared.matcher.ParsedSymbolMatcher.{ParsedSymbolMatcher}
 use Rattle.link_script.specs.RustForm.{exact_name, listed_names}
 
 pub listed_with : (es : List ParsedSymbolMatcher) (e : ParsedSymbolMatcher) (names new : List (List ℕ)) (n : List ℕ) → names ≡ listed_names es → exact_name e ≡ Some n → new ≡ names ++ n ∷ [] → new ≡ listed_names (es ++ e ∷ [])

@@ -7,9 +7,9 @@ use Rattle.std.proofs.lemmas.Slice.Eq.{bytes_eq-Decides}
 use Rattle.link_glob.specs.Glob.{GlobToken}
 use Rattle.link_script.specs.declared.rules.BasicMatchRules.{BasicMatchRules}
 use Rattle.link_script.specs.declared.rules.MatchRules.{MatchRules}
-use Rattle.link_syntax.specs.declared.matcher.SymbolMatcher.{SymbolMatcher}
-use Rattle.link_syntax.specs.declared.matcher.ParsedSymbolMatcher.{ParsedSymbolMatcher}
-use Rattle.link_syntax.specs.declared.matcher.ParsedSymbolMatcher.TheVariants.{Single, Multiple, CxxMatchers}
+use Rattle.link_script_syntax.specs.declared.matcher.SymbolMatcher.{SymbolMatcher}
+use Rattle.link_script_syntax.specs.declared.matcher.ParsedSymbolMatcher.{ParsedSymbolMatcher}
+use Rattle.link_script_syntax.specs.declared.matcher.ParsedSymbolMatcher.TheVariants.{Single, Multiple, CxxMatchers}
 use Rattle.link_names.specs.Names.{Names, is_member, AddsName}
 use Rattle.link_script.specs.Filter.{Filter, name, nonstar, star, every, HasGlob, HasFilter, filter_of, AreFilters, SameRules, SameFilters, Adds, AddsAll, of_language, EntryHas, EntriesHave, AddsEntry, HasEntries}
 

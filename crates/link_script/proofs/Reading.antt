@@ -1,6 +1,6 @@
 -- Versions that are read one after the other.
 use Rattle.std.proofs.Common.{◌≡◌, suc, List, [], ◌∷◌, ◌++◌, length, refl, ap}
-use Rattle.link_syntax.specs.declared.named.RawVersion.{RawVersion}
+use Rattle.link_script_syntax.specs.declared.named.RawVersion.{RawVersion}
 use Rattle.link_script.specs.declared.rules.Version.{Version}
 use Rattle.link_script.specs.Filter.{IsVersion, AreVersions}
 

@@ -1,18 +1,18 @@
 -- What a list's public calls refuse, by the grammar of its faults.
 use Rattle.std.proofs.Common.{◌≡◌, ℕ, Bool, List, length, Result, Ok, Err, sym, ◌∙◌}
 use Rattle.std.specs.Prelude.{IfOk, IfErr, OnOk}
-use Rattle.link_syntax.specs.declared.fault.Fault.{Fault}
-use Rattle.link_syntax.specs.declared.fault.ScriptErrorKind.{ScriptErrorKind}
-use Rattle.link_syntax.specs.declared.fault.ScriptFault.{ScriptFault}
-use Rattle.link_syntax.specs.Fault.{Refuses}
-use Rattle.link_syntax.specs.ForcedName.{added_entry}
-use Rattle.link_syntax.specs.GnuList.{gnu_list}
-use Rattle.link_syntax.specs.MachoList.{macho_list}
+use Rattle.link_script_syntax.specs.declared.fault.Fault.{Fault}
+use Rattle.link_script_syntax.specs.declared.fault.ScriptErrorKind.{ScriptErrorKind}
+use Rattle.link_script_syntax.specs.declared.fault.ScriptFault.{ScriptFault}
+use Rattle.link_script_syntax.specs.Fault.{Refuses}
+use Rattle.link_script_syntax.specs.ForcedName.{added_entry}
+use Rattle.link_script_syntax.specs.GnuList.{gnu_list}
+use Rattle.link_script_syntax.specs.MachoList.{macho_list}
 use Rattle.link_script.specs.declared.export_list.ExportList.{ExportList}
 use Rattle.link_script.specs.ExportList.{IsGnuList, IsMachoList, AddsText}
-use Rattle.link_syntax.specs.Faults.{IsFaultOf, IsRefusedWith}
-use Rattle.link_syntax.proofs.Answered.{fault_is, refuses_by}
-use Rattle.link_syntax.proofs.Judged.{Judges, never_both}
+use Rattle.link_script_syntax.specs.Faults.{IsFaultOf, IsRefusedWith}
+use Rattle.link_script_syntax.proofs.Answered.{fault_is, refuses_by}
+use Rattle.link_script_syntax.proofs.Judged.{Judges, never_both}
 
 -- that a value was read
 abbrev pub HasRead : {A X : Type 0} → Result A Fault → Result X ScriptFault → Type 0

@@ -3,7 +3,7 @@ use Rattle.std.proofs.Common.{◌≡◌, ◌≤◌, ◌+◌, ◌∙◌, ℕ, con
 use Rattle.std.proofs.lemmas.List.{take_more}
 use Rattle.std.specs.Prelude.{IsOk, IsTrue, vec_len, vec_capacity}
 use Rattle.std.proofs.lemmas.List.Sums.{sum_by-append}
-use Rattle.link_syntax.specs.declared.matcher.SymbolMatcher.{SymbolMatcher}
+use Rattle.link_script_syntax.specs.declared.matcher.SymbolMatcher.{SymbolMatcher}
 use Rattle.link_names.specs.Names.{Names, has_room}
 use Rattle.link_script.specs.declared.rules.BasicMatchRules.{BasicMatchRules}
 use Rattle.link_script.specs.declared.rules.Class.{Class}

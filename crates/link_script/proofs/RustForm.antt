@@ -5,13 +5,13 @@ use Rattle.std.specs.List.{list_any, list_all}
 use Rattle.std.specs.Str.{bytes_eq}
 use Rattle.std.proofs.lemmas.Option.{same_Some}
 use Rattle.std.proofs.lemmas.Slice.Eq.{bytes_eq-Decides}
-use Rattle.link_syntax.specs.declared.body.Side.{Side}
-use Rattle.link_syntax.specs.declared.body.Side.TheVariants.{Global, Local}
-use Rattle.link_syntax.specs.declared.body.RawVersionBody.{RawVersionBody}
-use Rattle.link_syntax.specs.declared.named.RawVersion.{RawVersion}
-use Rattle.link_syntax.specs.declared.matcher.SymbolMatcher.TheVariants as matchers
-use Rattle.link_syntax.specs.declared.matcher.ParsedSymbolMatcher.{ParsedSymbolMatcher}
-use Rattle.link_syntax.specs.declared.matcher.ParsedSymbolMatcher.TheVariants.{Single, Multiple, CxxMatchers}
+use Rattle.link_script_syntax.specs.declared.body.Side.{Side}
+use Rattle.link_script_syntax.specs.declared.body.Side.TheVariants.{Global, Local}
+use Rattle.link_script_syntax.specs.declared.body.RawVersionBody.{RawVersionBody}
+use Rattle.link_script_syntax.specs.declared.named.RawVersion.{RawVersion}
+use Rattle.link_script_syntax.specs.declared.matcher.SymbolMatcher.TheVariants as matchers
+use Rattle.link_script_syntax.specs.declared.matcher.ParsedSymbolMatcher.{ParsedSymbolMatcher}
+use Rattle.link_script_syntax.specs.declared.matcher.ParsedSymbolMatcher.TheVariants.{Single, Multiple, CxxMatchers}
 use Rattle.link_script.specs.declared.rules.Class.{Class}
 use Rattle.link_script.specs.declared.rules.Class.TheVariants.{Exact, Every}
 use Rattle.link_script.specs.Lookup.{Asked, name_of, text_of}

@@ -1,14 +1,14 @@
 -- Which names an export list has, and what its text makes of it.
 use Rattle.std.specs.Prelude.{◌≡◌, ◌↔◌, ◌⊎◌, ℕ, Bool, List, [], ◌∷◌, Ok}
 use Rattle.link_script.specs.declared.export_list.ExportList.{ExportList}
-use Rattle.link_syntax.specs.declared.matcher.SymbolMatcher.{SymbolMatcher}
-use Rattle.link_syntax.specs.declared.matcher.ParsedSymbolMatcher.{ParsedSymbolMatcher}
-use Rattle.link_syntax.specs.declared.matcher.ParsedSymbolMatcher.TheVariants.{Multiple}
+use Rattle.link_script_syntax.specs.declared.matcher.SymbolMatcher.{SymbolMatcher}
+use Rattle.link_script_syntax.specs.declared.matcher.ParsedSymbolMatcher.{ParsedSymbolMatcher}
+use Rattle.link_script_syntax.specs.declared.matcher.ParsedSymbolMatcher.TheVariants.{Multiple}
 use Rattle.link_script.specs.Filter.{Filter, HasFilter, of_language, EntryHas, EntriesHave}
-use Rattle.link_syntax.specs.ForcedName.{added_entry}
-use Rattle.link_syntax.specs.GnuList.{gnu_list}
+use Rattle.link_script_syntax.specs.ForcedName.{added_entry}
+use Rattle.link_script_syntax.specs.GnuList.{gnu_list}
 use Rattle.link_script.specs.Lookup.{Asked, name_of, text_of}
-use Rattle.link_syntax.specs.MachoList.{macho_list, exact_names}
+use Rattle.link_script_syntax.specs.MachoList.{macho_list, exact_names}
 use Rattle.link_script.specs.Rank.{Fits}
 
 -- the list has this filter, on plain names or on names of C++

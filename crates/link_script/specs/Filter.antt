@@ -2,14 +2,14 @@
 use Rattle.std.specs.Prelude.{◌≡◌, ℕ, List, [], ◌∷◌, Bool, true, false, Some, IsTrue, ◌⊎◌, ◌↔◌, slice_get}
 use Rattle.link_glob.specs.Glob.{GlobToken}
 use Rattle.link_names.specs.Names.{is_member}
-use Rattle.link_syntax.specs.declared.body.Side.{Side}
-use Rattle.link_syntax.specs.declared.body.Side.TheVariants.{Global, Local}
-use Rattle.link_syntax.specs.declared.body.RawVersionBody.{RawVersionBody}
-use Rattle.link_syntax.specs.declared.named.RawVersion.{RawVersion}
-use Rattle.link_syntax.specs.declared.matcher.SymbolMatcher.{SymbolMatcher}
-use Rattle.link_syntax.specs.declared.matcher.SymbolMatcher.TheVariants as matchers
-use Rattle.link_syntax.specs.declared.matcher.ParsedSymbolMatcher.{ParsedSymbolMatcher}
-use Rattle.link_syntax.specs.declared.matcher.ParsedSymbolMatcher.TheVariants.{Single, Multiple, CxxMatchers}
+use Rattle.link_script_syntax.specs.declared.body.Side.{Side}
+use Rattle.link_script_syntax.specs.declared.body.Side.TheVariants.{Global, Local}
+use Rattle.link_script_syntax.specs.declared.body.RawVersionBody.{RawVersionBody}
+use Rattle.link_script_syntax.specs.declared.named.RawVersion.{RawVersion}
+use Rattle.link_script_syntax.specs.declared.matcher.SymbolMatcher.{SymbolMatcher}
+use Rattle.link_script_syntax.specs.declared.matcher.SymbolMatcher.TheVariants as matchers
+use Rattle.link_script_syntax.specs.declared.matcher.ParsedSymbolMatcher.{ParsedSymbolMatcher}
+use Rattle.link_script_syntax.specs.declared.matcher.ParsedSymbolMatcher.TheVariants.{Single, Multiple, CxxMatchers}
 use Rattle.link_script.specs.declared.rules.BasicMatchRules.{BasicMatchRules}
 use Rattle.link_script.specs.declared.rules.MatchRules.{MatchRules}
 use Rattle.link_script.specs.declared.rules.VersionBody.{VersionBody}

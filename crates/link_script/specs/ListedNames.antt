@@ -1,13 +1,13 @@
 -- What the text of an export list says, whatever its form.
 use Rattle.std.specs.Prelude.{ℕ, List, [], ◌∷◌, Result, Ok}
 use Rattle.link_script.specs.declared.export_list.ExportList.{ExportList}
-use Rattle.link_syntax.specs.declared.fault.Fault.{Fault}
-use Rattle.link_syntax.specs.declared.matcher.ParsedSymbolMatcher.{ParsedSymbolMatcher}
-use Rattle.link_syntax.specs.declared.matcher.ParsedSymbolMatcher.TheVariants.{Multiple}
+use Rattle.link_script_syntax.specs.declared.fault.Fault.{Fault}
+use Rattle.link_script_syntax.specs.declared.matcher.ParsedSymbolMatcher.{ParsedSymbolMatcher}
+use Rattle.link_script_syntax.specs.declared.matcher.ParsedSymbolMatcher.TheVariants.{Multiple}
 use Rattle.link_script.specs.ExportList.{IsListOf}
-use Rattle.link_syntax.specs.Fault.{◌>>=◌}
-use Rattle.link_syntax.specs.GnuList.{gnu_list}
-use Rattle.link_syntax.specs.MachoList.{macho_list, exact_names}
+use Rattle.link_script_syntax.specs.Fault.{◌>>=◌}
+use Rattle.link_script_syntax.specs.GnuList.{gnu_list}
+use Rattle.link_script_syntax.specs.MachoList.{macho_list, exact_names}
 
 -- what an export list says: its entries, and the names that must be defined
 pub record ListedNames : Type 0 where

@@ -2,9 +2,9 @@
 use Rattle.std.specs.Prelude.{◌≡◌, ℕ, ◌<◌, ◌≤◌, List, Bool, true, false, Option, Some, None, IsTrue, ◌⊎◌, slice_get}
 use Rattle.std.specs.Str.{chars}
 use Rattle.link_glob.specs.Glob.{does_match}
-use Rattle.link_syntax.specs.declared.body.Side.{Side}
-use Rattle.link_syntax.specs.declared.body.Side.TheVariants.{Global, Local}
-use Rattle.link_syntax.specs.declared.named.RawVersion.{RawVersion}
+use Rattle.link_script_syntax.specs.declared.body.Side.{Side}
+use Rattle.link_script_syntax.specs.declared.body.Side.TheVariants.{Global, Local}
+use Rattle.link_script_syntax.specs.declared.named.RawVersion.{RawVersion}
 use Rattle.link_script.specs.declared.rules.BasicMatchRules.{BasicMatchRules}
 use Rattle.link_script.specs.declared.rules.Version.{Version}
 use Rattle.link_script.specs.declared.rules.Class.{Class}

@@ -1,7 +1,7 @@
 -- Scripts of versions: number 0 is the base version, which has no name.
 use Rattle.std.specs.Prelude.{ℕ, List, [], None, nat_lt, if◌then◌else◌, length, count_by, is_some}
-use Rattle.link_syntax.specs.declared.body.RawVersionBody.{RawVersionBody}
-use Rattle.link_syntax.specs.declared.named.RawVersion.{RawVersion}
+use Rattle.link_script_syntax.specs.declared.body.RawVersionBody.{RawVersionBody}
+use Rattle.link_script_syntax.specs.declared.named.RawVersion.{RawVersion}
 use Rattle.link_script.specs.declared.rules.Version.{Version}
 
 -- a base version with the entries of this body

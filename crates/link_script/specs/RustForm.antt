@@ -1,11 +1,11 @@
 -- The form of script that the Rust compiler writes: some names are global, and everything else is local.
 use Rattle.std.specs.Prelude.{◌≡◌, ℕ, Bool, true, false, ◌&&◌, List, Option, Some, None, is_some, Result, Ok, Err}
 use Rattle.std.specs.List.{list_any, list_all, filter_map}
-use Rattle.link_syntax.specs.declared.matcher.SymbolMatcher.{SymbolMatcher}
-use Rattle.link_syntax.specs.declared.matcher.SymbolMatcher.TheVariants.{Exact, MatchesAll}
-use Rattle.link_syntax.specs.declared.matcher.ParsedSymbolMatcher.{ParsedSymbolMatcher}
-use Rattle.link_syntax.specs.declared.matcher.ParsedSymbolMatcher.TheVariants.{Single}
-use Rattle.link_syntax.specs.declared.body.RawVersionBody.{RawVersionBody}
+use Rattle.link_script_syntax.specs.declared.matcher.SymbolMatcher.{SymbolMatcher}
+use Rattle.link_script_syntax.specs.declared.matcher.SymbolMatcher.TheVariants.{Exact, MatchesAll}
+use Rattle.link_script_syntax.specs.declared.matcher.ParsedSymbolMatcher.{ParsedSymbolMatcher}
+use Rattle.link_script_syntax.specs.declared.matcher.ParsedSymbolMatcher.TheVariants.{Single}
+use Rattle.link_script_syntax.specs.declared.body.RawVersionBody.{RawVersionBody}
 use Rattle.link_script.specs.declared.rust_form.RustVersionScript.{RustVersionScript}
 use Rattle.link_script.specs.declared.rust_form.RustFormError.{RustFormError}
 use Rattle.link_script.specs.declared.rust_form.RustFormError.TheVariants as errors

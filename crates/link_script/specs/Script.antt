@@ -1,13 +1,13 @@
 -- The script that a text spells, and what it says.
 use Rattle.std.specs.Prelude.{◌≡◌, ℕ, Bool, true, false, List, [], ◌∷◌, Option, None, Result, Ok, Err}
-use Rattle.link_syntax.specs.declared.fault.Fault.{Fault}
-use Rattle.link_syntax.specs.declared.fault.ScriptFault.{ScriptFault}
-use Rattle.link_syntax.specs.declared.fault.ScriptFault.TheVariants as faults
-use Rattle.link_syntax.specs.declared.named.RawVersion.{RawVersion}
-use Rattle.link_syntax.specs.declared.script.RawScript.{RawScript}
-use Rattle.link_syntax.specs.declared.script.RawScript.TheVariants.{Anonymous, Named}
-use Rattle.link_syntax.specs.Fault.{Refuses}
-use Rattle.link_syntax.specs.Named.{raw_names}
+use Rattle.link_script_syntax.specs.declared.fault.Fault.{Fault}
+use Rattle.link_script_syntax.specs.declared.fault.ScriptFault.{ScriptFault}
+use Rattle.link_script_syntax.specs.declared.fault.ScriptFault.TheVariants as faults
+use Rattle.link_script_syntax.specs.declared.named.RawVersion.{RawVersion}
+use Rattle.link_script_syntax.specs.declared.script.RawScript.{RawScript}
+use Rattle.link_script_syntax.specs.declared.script.RawScript.TheVariants.{Anonymous, Named}
+use Rattle.link_script_syntax.specs.Fault.{Refuses}
+use Rattle.link_script_syntax.specs.Named.{raw_names}
 use Rattle.link_script.specs.declared.rust_form.RustVersionScript.{RustVersionScript}
 use Rattle.link_script.specs.declared.script.VersionScript.{VersionScript}
 use Rattle.link_script.specs.declared.script.VersionScript.TheVariants.{Regular, Rust}

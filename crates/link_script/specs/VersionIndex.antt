@@ -4,7 +4,7 @@ use Rattle.std.specs.List.{range_with_len}
 use Rattle.link_script.specs.declared.rules.Version.{Version}
 use Rattle.link_script.specs.declared.rules.Class.{Class}
 use Rattle.link_script.specs.declared.rules.Class.TheVariants.{Exact, Nonstar, Star, Every}
-use Rattle.link_syntax.specs.declared.body.Side.TheVariants.{Global, Local}
+use Rattle.link_script_syntax.specs.declared.body.Side.TheVariants.{Global, Local}
 use Rattle.link_script.specs.declared.version_index.VersionIndex.{VersionIndex}
 use Rattle.link_script.specs.Filter.{rules_of}
 use Rattle.link_script.specs.Lookup.{Asked}

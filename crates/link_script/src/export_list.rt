@@ -1,22 +1,22 @@
 //! Export lists: which symbols a shared object shows, and which ones must be there.
 
 ghost use Rattle.std.specs.Prelude.{◌≡◌, ◌↔◌, [], ℕ, List, IsTrue, IfOk, IfErr, OnOk, OnErr};
-ghost use Rattle.link_syntax.specs.declared.fault.ScriptErrorKind.{ScriptErrorKind};
-ghost use Rattle.link_syntax.specs.Faults.{IsFaultOf, IsRefusedWith};
-ghost use Rattle.link_syntax.specs.ListFaults.{ListFails, AddedFails};
-ghost use Rattle.link_syntax.specs.MachoGrammar.{MachoFails};
+ghost use Rattle.link_script_syntax.specs.declared.fault.ScriptErrorKind.{ScriptErrorKind};
+ghost use Rattle.link_script_syntax.specs.Faults.{IsFaultOf, IsRefusedWith};
+ghost use Rattle.link_script_syntax.specs.ListFaults.{ListFails, AddedFails};
+ghost use Rattle.link_script_syntax.specs.MachoGrammar.{MachoFails};
 ghost use Rattle.link_script.specs.ExportRules.{class_fits, some_fits};
-ghost use Rattle.link_syntax.specs.Fault.{Refuses};
-ghost use Rattle.link_syntax.specs.ForcedName.{added_entry};
-ghost use Rattle.link_syntax.specs.GnuList.{gnu_list};
+ghost use Rattle.link_script_syntax.specs.Fault.{Refuses};
+ghost use Rattle.link_script_syntax.specs.ForcedName.{added_entry};
+ghost use Rattle.link_script_syntax.specs.GnuList.{gnu_list};
 ghost use Rattle.link_script.specs.Lookup.{seen, asked};
-ghost use Rattle.link_syntax.specs.MachoList.{macho_list, exact_names};
+ghost use Rattle.link_script_syntax.specs.MachoList.{macho_list, exact_names};
 
 use crate::lookup::{Demangler, Lookup, look_up};
 use crate::rank::{cxx_fits, plain_fits};
 use crate::rules::{Class, MatchRules};
 use link_names::{Name, Seq};
-use link_syntax::{
+use link_script_syntax::{
     ParsedSymbolMatcher, ScriptFault, SymbolMatcher, read_added_entry, read_gnu_list,
     read_macho_list,
 };

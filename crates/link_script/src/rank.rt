@@ -1,7 +1,7 @@
 //! Which version a name belongs to.
 
 ghost use Rattle.std.specs.Prelude.{◌≡◌, ◌<◌, List, length, zero, IfSome};
-ghost use Rattle.link_syntax.specs.declared.named.RawVersion.{RawVersion};
+ghost use Rattle.link_script_syntax.specs.declared.named.RawVersion.{RawVersion};
 ghost use Rattle.link_script.specs.declared.rules.Class.TheVariants.{Exact};
 ghost use Rattle.link_script.specs.Filter.{AreVersions};
 ghost use Rattle.link_script.specs.Lookup.{seen, asked};
@@ -14,7 +14,7 @@ use crate::lookup::{Demangler, Lookup, look_up};
 use crate::rules::{Class, MatchRules, Version};
 use crate::version_globs::ClassGlobs;
 use crate::version_index::VersionIndex;
-use link_syntax::Side;
+use link_script_syntax::Side;
 
 /// Whether a pattern of the class outside blocks of C++ fits the name.
 pub fn plain_fits(rules: &MatchRules, class: Class, name: &Lookup) -> bool

@@ -2,16 +2,16 @@
 
 ghost use Rattle.std.specs.Prelude.{◌≡◌, ◌<◌, [], ◌∷◌, ℕ, List, Option, true, not, length, IfOk};
 ghost use Rattle.std.specs.Option.{option_map};
-ghost use Rattle.link_syntax.specs.declared.body.Side.{Side};
-ghost use Rattle.link_syntax.specs.declared.body.RawVersionBody.{RawVersionBody};
-ghost use Rattle.link_syntax.specs.declared.named.RawVersion.{RawVersion};
+ghost use Rattle.link_script_syntax.specs.declared.body.Side.{Side};
+ghost use Rattle.link_script_syntax.specs.declared.body.RawVersionBody.{RawVersionBody};
+ghost use Rattle.link_script_syntax.specs.declared.named.RawVersion.{RawVersion};
 ghost use Rattle.link_script.specs.Filter.{AreVersions};
 ghost use Rattle.link_names.specs.Names.{has_name};
 ghost use Rattle.link_script.specs.Lookup.{asked};
 ghost use Rattle.link_script.specs.Rank.{filters_of, filters_in, IsBest};
 ghost use Rattle.link_script.specs.RustForm.{is_rust_form, listed_names};
 ghost use Rattle.link_script.specs.Regular.{unnamed, base, counted, parents};
-ghost use Rattle.link_syntax.specs.Named.{raw_names};
+ghost use Rattle.link_script_syntax.specs.Named.{raw_names};
 ghost use Rattle.link_script.specs.VersionOf.{version_names, answered, version_of, is_local_match, is_local_in, IsVersionOf};
 
 use crate::lookup::Demangler;
@@ -20,7 +20,7 @@ use crate::rules::{Version, VersionBody};
 use crate::symbol_version::{UndefinedVersion, version_for_symbol};
 use crate::version_index::VersionIndex;
 use link_names::{Name, Seq};
-use link_syntax::{RawVersion, RawVersionBody, Side};
+use link_script_syntax::{RawVersion, RawVersionBody, Side};
 use std::alloc::{AllocError, Global};
 use std::marker::Model;
 

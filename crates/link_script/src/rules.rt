@@ -1,13 +1,13 @@
 //! The patterns of a version, by language and kind, and which names they fit.
 
 ghost use Rattle.std.specs.Prelude.{◌≡◌, ◌↔◌, ◌<◌, ◌≤◌, ◌+◌, [], ◌∷◌, ◌++◌, ◌||◌, ℕ, List, Bool, IsTrue, IsOk, IfOk, OnOk, OnErr};
-ghost use Rattle.link_syntax.specs.declared.matcher.SymbolMatcher.{SymbolMatcher};
+ghost use Rattle.link_script_syntax.specs.declared.matcher.SymbolMatcher.{SymbolMatcher};
 ghost use Rattle.link_script.specs.Room.{is_of, count_of, exact_name, HasNameRoom, HasRoom};
 ghost use Rattle.link_names.specs.Names.{is_member};
 ghost use Rattle.link_script.specs.Lookup.{seen, asked, name_of, text_of};
 ghost use Rattle.link_script.specs.Rank.{HasFit, glob_class};
 ghost use Rattle.std.specs.Option.{option_map};
-ghost use Rattle.link_syntax.specs.declared.body.Side.{Side};
+ghost use Rattle.link_script_syntax.specs.declared.body.Side.{Side};
 ghost use Rattle.link_script.specs.Filter.{Filter, every, HasFilter, SameRules, SameFilters, Adds, AddsAll, AddsEntry, HasEntries, HasBody, IsVersion, of_language, rules_of};
 ghost use Rattle.link_script.specs.Regular.{base};
 ghost use Rattle.link_script.specs.Rules.{exact_fits, glob_fits, globs_in, rules_fit, rules_have, version_has};
@@ -15,7 +15,7 @@ ghost use Rattle.link_script.specs.Rules.{exact_fits, glob_fits, globs_in, rules
 use crate::lookup::{Demangler, Lookup, look_up, name_of, text_of};
 use link_glob::{GlobList, Pattern};
 use link_names::{Name, NameSet, Seq};
-use link_syntax::{ParsedSymbolMatcher, RawVersion, RawVersionBody, Side, SymbolMatcher};
+use link_script_syntax::{ParsedSymbolMatcher, RawVersion, RawVersionBody, Side, SymbolMatcher};
 use std::alloc::{AllocError, Global};
 
 /// The kinds of patterns, the strongest first.

@@ -6,7 +6,7 @@ ghost use Rattle.link_script.specs.RustForm.{is_rust_form, is_bare_star, is_exac
 ghost use Rattle.link_script.specs.declared.rust_form.RustFormError.TheVariants.{Memory};
 
 use link_names::{Name, Seq};
-use link_syntax::{ParsedSymbolMatcher, RawVersionBody, SymbolMatcher};
+use link_script_syntax::{ParsedSymbolMatcher, RawVersionBody, SymbolMatcher};
 use std::alloc::{AllocError, Global};
 
 /// A script of the Rust form: the names that it lists. Every other name is local. Mirrors Wild's `RustVersionScript`.

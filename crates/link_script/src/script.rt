@@ -2,11 +2,11 @@
 
 ghost use Rattle.std.specs.Prelude.{◌≡◌, [], ℕ, List, IfOk, IfErr};
 ghost use Rattle.std.specs.Option.{option_map};
-ghost use Rattle.link_syntax.specs.declared.script.RawScript.{RawScript};
-ghost use Rattle.link_syntax.specs.declared.fault.ScriptErrorKind.{ScriptErrorKind};
-ghost use Rattle.link_syntax.specs.Faults.{IsFaultOf, IsRefusedWith, ScriptFails};
-ghost use Rattle.link_syntax.specs.Grammar.{IsVersionScript};
-ghost use Rattle.link_syntax.specs.Script.{script_at};
+ghost use Rattle.link_script_syntax.specs.declared.script.RawScript.{RawScript};
+ghost use Rattle.link_script_syntax.specs.declared.fault.ScriptErrorKind.{ScriptErrorKind};
+ghost use Rattle.link_script_syntax.specs.Faults.{IsFaultOf, IsRefusedWith, ScriptFails};
+ghost use Rattle.link_script_syntax.specs.Grammar.{IsVersionScript};
+ghost use Rattle.link_script_syntax.specs.Script.{script_at};
 ghost use Rattle.link_script.specs.Lookup.{asked};
 ghost use Rattle.link_script.specs.Script.{IsScriptOf, Parses, IsSpelledBy, IsVersionBy, is_rust, script_count, script_parents, IsVersionIn, version_in_script};
 ghost use Rattle.link_script.specs.VersionOf.{answered};
@@ -15,7 +15,7 @@ use crate::lookup::Demangler;
 use crate::regular::RegularVersionScript;
 use crate::rust_form::{RustFormError, RustVersionScript};
 use crate::symbol_version::UndefinedVersion;
-use link_syntax::{RawScript, RawVersionBody, ScriptFault};
+use link_script_syntax::{RawScript, RawVersionBody, ScriptFault};
 use std::alloc::{AllocError, Global};
 
 /// A version script (GNU ld's VERSION syntax). Mirrors Wild's `VersionScript`.

@@ -14,7 +14,7 @@ use crate::lookup::{Lookup, text_of};
 use crate::rules::{BasicMatchRules, Class, Version};
 use link_glob::{GlobIndex, Globs, Pattern};
 use link_names::Seq;
-use link_syntax::Side;
+use link_script_syntax::Side;
 use std::alloc::{AllocError, Global};
 use std::marker::Model;
 

@@ -1,11 +1,11 @@
 use Rattle.std.proofs.Common.{◌∙◌, ◌++◌, List, [], ◌∷◌, Err, ap, arith, length, refl, subst, sym, not}
-use Rattle.link_files.specs.GroupFiles.{symbols_in}
+use Rattle.link_db_files.specs.GroupFiles.{symbols_in}
 use Rattle.link_flags.specs.FlagWords.{numbers_of, words_of}
-use Rattle.link_groups.specs.Held.{AreGroupsOf}
+use Rattle.link_input_groups.specs.Held.{AreGroupsOf}
 use Rattle.link_input.specs.declared.options.Options.{Options}
 use Rattle.link_input.specs.InputFiles.{Batch, batch_of}
-use Rattle.link_loader.specs.Causes.{TellsCause}
-use Rattle.link_loader.specs.Holds.{AreRulesOf, HoldsTexts, platform_of}
+use Rattle.link_db_texts.specs.Causes.{TellsCause}
+use Rattle.link_db_texts.specs.Holds.{AreRulesOf, HoldsTexts, platform_of}
 use Rattle.link_rules.specs.Places.{is_empty}
 use Rattle.link_rules.specs.World.{Earlier, with_batch}
 use Rattle.link_db.proofs.Causes.{tells-through}

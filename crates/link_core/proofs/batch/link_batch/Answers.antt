@@ -1,8 +1,8 @@
 use Rattle.std.proofs.Common.{◌≡◌, ◌∙◌, Ok, Err, arith, length, not}
 use Rattle.link_flags.specs.FlagWords.{numbers_of, words_of}
 use Rattle.link_input.specs.InputFiles.{batch_of}
-use Rattle.link_loader.specs.Causes.{TellsCause}
-use Rattle.link_loader.specs.Holds.{platform_of}
+use Rattle.link_db_texts.specs.Causes.{TellsCause}
+use Rattle.link_db_texts.specs.Holds.{platform_of}
 use Rattle.link_rules.specs.Answer.{End}
 use Rattle.link_rules.specs.Places.{is_empty}
 use Rattle.link_rules.specs.World.{with_batch}

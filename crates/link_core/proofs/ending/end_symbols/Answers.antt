@@ -1,8 +1,8 @@
 use Rattle.std.proofs.Common.{◌≡◌, ◌∙◌, ℕ, Bool, List, ap, subst, sym}
-use Rattle.link_discarding.specs.Indexed.{AreGroupsOf}
+use Rattle.link_resolve_discarded.specs.Indexed.{AreGroupsOf}
 use Rattle.link_input.specs.declared.options.Options.{Options}
 use Rattle.link_flags.specs.FlagWords.{numbers_of, words_of}
-use Rattle.link_loader.specs.Holds.{platform_of}
+use Rattle.link_db_texts.specs.Holds.{platform_of}
 use Rattle.link_rules.specs.Visibility.{narrowed_flags}
 use Rattle.link_db.specs.RustScript.{flags_by_script}
 use Rattle.link_db.specs.Seen.{seen}

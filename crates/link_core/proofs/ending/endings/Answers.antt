@@ -1,8 +1,8 @@
 use Rattle.std.proofs.Common.{Err, subst, sym}
 use Rattle.link_flags.specs.FlagWords.{numbers_of, words_of}
-use Rattle.link_loader.specs.Causes.{TellsCause}
-use Rattle.link_loader.specs.Holds.{platform_of}
-use Rattle.link_mapping.specs.Mapped.{mapping_of}
+use Rattle.link_db_texts.specs.Causes.{TellsCause}
+use Rattle.link_db_texts.specs.Holds.{platform_of}
+use Rattle.link_db_mapping.specs.Mapped.{mapping_of}
 use Rattle.link_rules.specs.Undefined.{resolved}
 use Rattle.link_rules.specs.Versions.{version_refusal}
 use Rattle.link_db.specs.Seen.{seen}

@@ -1,6 +1,6 @@
 use Rattle.std.proofs.Common.{◌∙◌, ◌++◌, [], ◌∷◌, ℕ, Bool, List, Option, ap, if◌then◌else◌}
 use Rattle.std.specs.Prelude.{is_none}
-use Rattle.link_mapping.specs.Mapped.{mapping_of}
+use Rattle.link_db_mapping.specs.Mapped.{mapping_of}
 use Rattle.link_rules.specs.Places.{Bytes}
 use Rattle.link_db.specs.Seen.{seen}
 use Rattle.link_core.proofs.Answering.{kept-more, none-is}

@@ -1,6 +1,6 @@
 use Rattle.std.proofs.Common.{◌∙◌, List, ap}
 use Rattle.std.specs.Prelude.{filter, is_none}
-use Rattle.link_mapping.specs.Mapped.{mapping_of}
+use Rattle.link_db_mapping.specs.Mapped.{mapping_of}
 use Rattle.link_rules.specs.Places.{Bytes}
 use Rattle.link_db.specs.Seen.{seen}
 use Rattle.link_core.proofs.ending.missing_exports.Goals as goal

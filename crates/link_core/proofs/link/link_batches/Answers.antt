@@ -3,8 +3,8 @@ use Rattle.std.specs.List.{flat_map}
 use Rattle.link_flags.specs.FlagWords.{words_of}
 use Rattle.link_input.specs.declared.world.Inputs.{Inputs}
 use Rattle.link_input.specs.InputFiles.{Batch, batch_of}
-use Rattle.link_loader.specs.Causes.{IsGiven, TellsCause}
-use Rattle.link_loader.specs.Holds.{platform_of}
+use Rattle.link_db_texts.specs.Causes.{IsGiven, TellsCause}
+use Rattle.link_db_texts.specs.Holds.{platform_of}
 use Rattle.link_rules.specs.Refusals.{text_refusal}
 use Rattle.link_rules.specs.World.{World, world_of}
 use Rattle.link_db.specs.Seen.{seen}

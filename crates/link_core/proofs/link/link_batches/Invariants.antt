@@ -1,7 +1,7 @@
 use Rattle.std.proofs.Common.{◌≡◌, ◌++◌, List, map}
 use Rattle.link_flags.specs.FlagWords.{words_of}
 use Rattle.link_input.specs.InputFiles.{Batch, batch_of}
-use Rattle.link_loader.specs.Holds.{platform_of}
+use Rattle.link_db_texts.specs.Holds.{platform_of}
 use Rattle.link_db.specs.Seen.{seen}
 use Rattle.link_core.specs.Steps.{IsOpenWith, IsSteady}
 use Rattle.link_core.proofs.link.link_batches.Given as goal

@@ -1,8 +1,8 @@
 use Rattle.std.proofs.Common.{◌∙◌, [], Err, append-nil, arith, refl}
 use Rattle.link_flags.specs.FlagWords.{numbers_of, words_of}
 use Rattle.link_input.specs.InputFiles.{batch_of}
-use Rattle.link_loader.specs.Causes.{IsGiven, TellsCause}
-use Rattle.link_loader.specs.Holds.{platform_of}
+use Rattle.link_db_texts.specs.Causes.{IsGiven, TellsCause}
+use Rattle.link_db_texts.specs.Holds.{platform_of}
 use Rattle.link_rules.specs.Refusals.{text_refusal}
 use Rattle.link_rules.specs.Selection.{Selection}
 use Rattle.link_rules.specs.World.{World, world_of}

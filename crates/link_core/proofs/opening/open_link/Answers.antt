@@ -3,7 +3,7 @@ use Rattle.link_input.specs.declared.options.Options.{Options}
 use Rattle.link_input.specs.declared.world.Scripts.{Scripts}
 use Rattle.link_flags.specs.FlagWords.{numbers_of, words_of}
 use Rattle.link_flags.specs.declared.value_flags.RawFlags.{RawFlags}
-use Rattle.link_loader.specs.Holds.{HoldsTexts, platform_of}
+use Rattle.link_db_texts.specs.Holds.{HoldsTexts, platform_of}
 use Rattle.link_rules.specs.World.{world_of}
 use Rattle.link_db.specs.Database.{Database}
 use Rattle.link_db.specs.Seen.{seen}

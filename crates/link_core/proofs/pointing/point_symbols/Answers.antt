@@ -1,7 +1,7 @@
 use Rattle.std.proofs.Common.{◌∙◌, Err, ap, refl, subst, sym}
 use Rattle.link_flags.specs.FlagWords.{numbers_of, words_of}
-use Rattle.link_loader.specs.Causes.{TellsCause}
-use Rattle.link_loader.specs.Holds.{platform_of}
+use Rattle.link_db_texts.specs.Causes.{TellsCause}
+use Rattle.link_db_texts.specs.Holds.{platform_of}
 use Rattle.link_rules.specs.Refusals.{group_refusal}
 use Rattle.link_rules.specs.Selection.{Selection, selection_of}
 use Rattle.link_resolve.specs.Known.{IsLoadedSelection}

@@ -1,7 +1,7 @@
 use Rattle.std.proofs.Common.{Err, ap, subst, sym}
 use Rattle.link_flags.specs.FlagWords.{numbers_of, words_of}
-use Rattle.link_loader.specs.Causes.{TellsCause}
-use Rattle.link_loader.specs.Holds.{platform_of}
+use Rattle.link_db_texts.specs.Causes.{TellsCause}
+use Rattle.link_db_texts.specs.Holds.{platform_of}
 use Rattle.link_rules.specs.Refusals.{duplicate_lines, unless_none}
 use Rattle.link_db.specs.Database.{Database}
 use Rattle.link_db.specs.Seen.{seen}

@@ -2,7 +2,7 @@ use Rattle.std.proofs.Common.{◌∙◌, ◌++◌, [], ◌∷◌, Err, ap}
 use Rattle.std.specs.Prelude.{IfSome}
 use Rattle.link_flags.specs.FlagWords.{words_of}
 use Rattle.link_input.specs.InputFiles.{batch_of}
-use Rattle.link_loader.specs.Holds.{platform_of}
+use Rattle.link_db_texts.specs.Holds.{platform_of}
 use Rattle.link_rules.specs.Answer.{BatchesEnd}
 use Rattle.link_db.specs.Seen.{seen}
 use Rattle.link_core.specs.declared.batch_size.BatchSize.{BatchSize}

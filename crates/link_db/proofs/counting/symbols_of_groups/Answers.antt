@@ -1,9 +1,9 @@
 use Rattle.std.proofs.Common.{◌≡◌, ◌+◌, ◌∷◌, List, drop, length, ap, subst, arith}
-use Rattle.link_groups.specs.declared.group.Group.{Group}
-use Rattle.link_groups.specs.Asked.{AllCanBeAsked}
-use Rattle.link_files.specs.GroupFiles.{symbols_in}
+use Rattle.link_input_groups.specs.declared.group.Group.{Group}
+use Rattle.link_input_groups.specs.Asked.{AllCanBeAsked}
+use Rattle.link_db_files.specs.GroupFiles.{symbols_in}
 use Rattle.link_db.proofs.GroupCounts.{count-first}
-use Rattle.link_loader.proofs.Forced.{rest_is}
+use Rattle.link_db_texts.proofs.Forced.{rest_is}
 use Rattle.link_db.proofs.counting.symbols_of_groups.Goals as goal
 
 -- one group more is counted

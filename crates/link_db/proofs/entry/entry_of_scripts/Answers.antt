@@ -4,11 +4,11 @@ use Rattle.std.specs.List.{filter_map}
 use Rattle.std.specs.Option.{option_or}
 use Rattle.std.proofs.lemmas.List.Elements.{filter_map-append}
 use Rattle.link_input.specs.declared.world.ProcessedLinkerScript.{ProcessedLinkerScript}
-use Rattle.link_groups.specs.declared.group.Group.{Group}
-use Rattle.link_files.specs.Inputs.{scripts_in}
+use Rattle.link_input_groups.specs.declared.group.Group.{Group}
+use Rattle.link_db_files.specs.Inputs.{scripts_in}
 use Rattle.link_rules.specs.Places.{Bytes, last_of}
 use Rattle.link_db.proofs.LastEntry.{last-joined, scripts-first}
-use Rattle.link_loader.proofs.Forced.{rest_is}
+use Rattle.link_db_texts.proofs.Forced.{rest_is}
 use Rattle.link_db.proofs.entry.entry_of_scripts.Goals as goal
 
 -- one group more

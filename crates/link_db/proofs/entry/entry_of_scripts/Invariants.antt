@@ -1,7 +1,7 @@
 use Rattle.std.proofs.Common.{◌≡◌, drop}
 use Rattle.std.specs.Prelude.{filter_map, option_map}
 use Rattle.std.specs.Option.{option_or}
-use Rattle.link_files.specs.Inputs.{scripts_in}
+use Rattle.link_db_files.specs.Inputs.{scripts_in}
 use Rattle.link_rules.specs.Places.{last_of}
 use Rattle.link_db.proofs.entry.entry_of_scripts.Given as goal
 

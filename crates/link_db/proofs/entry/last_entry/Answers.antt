@@ -3,10 +3,10 @@ use Rattle.std.specs.Prelude.{option_map}
 use Rattle.std.specs.List.{filter_map}
 use Rattle.std.specs.Option.{option_or}
 use Rattle.link_input.specs.declared.world.ProcessedLinkerScript.{ProcessedLinkerScript}
-use Rattle.link_groups.specs.declared.sequenced.SequencedLinkerScript.{SequencedLinkerScript}
+use Rattle.link_input_groups.specs.declared.sequenced.SequencedLinkerScript.{SequencedLinkerScript}
 use Rattle.link_rules.specs.Places.{last_of}
 use Rattle.link_db.proofs.LastEntry.{last-in-front}
-use Rattle.link_loader.proofs.Forced.{rest_is}
+use Rattle.link_db_texts.proofs.Forced.{rest_is}
 use Rattle.link_db.proofs.entry.last_entry.Goals as goal
 
 -- one linker script more

@@ -1,8 +1,8 @@
 use Rattle.std.proofs.Common.{◌∙◌, [], ◌∷◌, ap, map, sym}
 use Rattle.std.proofs.lemmas.List.{nil_from_length}
-use Rattle.link_groups.specs.declared.group.Group.{Group}
-use Rattle.link_files.specs.Inputs.{scripts_in}
-use Rattle.link_files.proofs.Picking.{no-scripts}
+use Rattle.link_input_groups.specs.declared.group.Group.{Group}
+use Rattle.link_db_files.specs.Inputs.{scripts_in}
+use Rattle.link_db_files.proofs.Picking.{no-scripts}
 use Rattle.link_db.proofs.LastEntry.{scripts-there}
 use Rattle.link_db.proofs.entry.scripts_of.Goals as goal
 

@@ -1,6 +1,6 @@
 use Rattle.std.proofs.Common.{◌≡◌, ◌+◌, suc, drop, if◌then◌else◌, Some, subst, arith}
 use Rattle.std.specs.Prelude.{slice_get}
-use Rattle.link_files.specs.HeldFiles.{names_in}
+use Rattle.link_db_files.specs.HeldFiles.{names_in}
 use Rattle.link_rules.specs.Places.{first_of, places_from}
 use Rattle.link_db.specs.Mangled.{stands_for}
 use Rattle.link_db.proofs.Walked.{next-first}

@@ -1,5 +1,5 @@
 use Rattle.std.proofs.Common.{◌≡◌, drop}
-use Rattle.link_files.specs.HeldFiles.{names_in}
+use Rattle.link_db_files.specs.HeldFiles.{names_in}
 use Rattle.link_rules.specs.Places.{first_of, places_from}
 use Rattle.link_db.specs.Mangled.{stands_for}
 use Rattle.link_db.proofs.mangled.find_mangled.Given as goal

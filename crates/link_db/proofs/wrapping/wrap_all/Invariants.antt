@@ -1,7 +1,7 @@
 use Rattle.std.proofs.Common.{◌≡◌, take}
 use Rattle.std.specs.Prelude.{fold}
-use Rattle.link_mapping.specs.Mapped.{mapping_of}
-use Rattle.link_mapping.specs.Seen.{seen}
+use Rattle.link_db_mapping.specs.Mapped.{mapping_of}
+use Rattle.link_db_mapping.specs.Seen.{seen}
 use Rattle.link_rules.specs.Names.{wrapped}
 use Rattle.link_db.proofs.wrapping.wrap_all.Given as goal
 

@@ -1,5 +1,5 @@
 use Rattle.std.proofs.Common.{◌≡◌, ◌++◌, Ok, drop}
-use Rattle.link_json.specs.Tree.{items_view}
+use Rattle.link_manifest_json.specs.Tree.{items_view}
 use Rattle.link_manifest.specs.Reading.{and_read, items_read}
 use Rattle.link_manifest.proofs.reading.items.Given as goal
 

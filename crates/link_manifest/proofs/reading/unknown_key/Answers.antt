@@ -2,7 +2,7 @@ use Rattle.std.proofs.Common.{◌≡◌, ◌+◌, ◌∷◌, drop, map, refl, sy
 use Rattle.std.proofs.lemmas.List.{drop_more}
 use Rattle.json.specs.Value as tree
 use Rattle.serde_json.specs.Data.{no_members, put}
-use Rattle.link_json.specs.Tree.{put_all, view}
+use Rattle.link_manifest_json.specs.Tree.{put_all, view}
 use Rattle.link_manifest.specs.Reading.{unknown_key, with_key}
 use Rattle.link_manifest.proofs.Keys.{sorted-put, unknown-put}
 use Rattle.link_manifest.proofs.reading.unknown_key.Goals as goal

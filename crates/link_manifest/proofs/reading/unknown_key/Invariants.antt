@@ -1,7 +1,7 @@
 use Rattle.std.proofs.Common.{◌≡◌, drop, map, option_map}
 use Rattle.json.specs.Value as tree
 use Rattle.serde_json.specs.Data.{Members}
-use Rattle.link_json.specs.Tree.{members_view, put_all}
+use Rattle.link_manifest_json.specs.Tree.{members_view, put_all}
 use Rattle.link_manifest.specs.Reading.{unknown_key}
 use Rattle.link_manifest.proofs.Keys.{IsSorted}
 use Rattle.link_manifest.proofs.reading.unknown_key.Given as goal

@@ -5,7 +5,7 @@ use Rattle.std.specs.Str.{bytes_eq}
 use Rattle.json.specs.Value as tree
 use Rattle.json.specs.Value.{value_view}
 use Rattle.serde_json.specs.Data.{no_members, member, put}
-use Rattle.link_json.specs.Tree.{put_all, view}
+use Rattle.link_manifest_json.specs.Tree.{put_all, view}
 use Rattle.link_manifest.specs.Values.{hex_text}
 use Rattle.link_manifest.proofs.OneKey.{none-replaced, one-replaced, hex_text-one, no-hex_text}
 use Rattle.link_manifest.proofs.values.hex_text.Goals as goal

@@ -1,7 +1,7 @@
 use Rattle.std.proofs.Common.{◌≡◌, drop, option_map}
 use Rattle.json.specs.Value as tree
 use Rattle.serde_json.specs.Data.{Members}
-use Rattle.link_json.specs.Tree.{members_view, put_all}
+use Rattle.link_manifest_json.specs.Tree.{members_view, put_all}
 use Rattle.link_manifest.specs.Values.{hex_text}
 use Rattle.link_manifest.proofs.OneKey.{IsReplaced}
 use Rattle.link_manifest.proofs.values.hex_text.Given as goal

@@ -1,5 +1,5 @@
 use Rattle.std.proofs.Common.{refl, subst}
-use Rattle.link_streams.proofs.Flow.{gives-at_most_nothing}
+use Rattle.link_program_streams.proofs.Flow.{gives-at_most_nothing}
 use Rattle.link_program.specs.declared.command.Command.{Command}
 use Rattle.link_program.specs.Grammar.{IsCommand}
 use Rattle.link_program.proofs.OfWorld.{bulk-text, words-text, ok-into}

@@ -1,6 +1,6 @@
 use Rattle.std.proofs.Common.{List, append-nil, subst}
-use Rattle.link_bulk.specs.Bulk.{bulk_objects}
-use Rattle.link_bulk.specs.World.{bulk_world}
+use Rattle.link_manifest_bulk.specs.Bulk.{bulk_objects}
+use Rattle.link_manifest_bulk.specs.World.{bulk_world}
 use Rattle.link_input.specs.ObjectFile.{ObjectFile}
 use Rattle.link_manifest.specs.declared.manifest.Manifest.{Manifest as Described}
 use Rattle.link_program.specs.declared.run.Told.TheVariants.{Summary}

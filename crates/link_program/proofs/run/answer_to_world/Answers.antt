@@ -2,9 +2,9 @@ use Rattle.std.proofs.Common.{◌∙◌, List, ap, arith, length, map}
 use Rattle.std.specs.List.{flat_map}
 use Rattle.link_input.specs.InputFiles.{Batch, batch_of}
 use Rattle.link_input.specs.ObjectFile.{ObjectFile}
-use Rattle.link_answer.specs.Parts.{answer_of}
-use Rattle.link_answer.specs.Seen as answer
-use Rattle.link_loader.specs.Holds.{platform_of}
+use Rattle.link_core_answer.specs.Parts.{answer_of}
+use Rattle.link_core_answer.specs.Seen as answer
+use Rattle.link_db_texts.specs.Holds.{platform_of}
 use Rattle.link_rules.specs.World.{Given, World, world_of}
 use Rattle.link_core.specs.Given.{given_in_batches}
 use Rattle.link_program.specs.Outcome.{objects_given, told_text}

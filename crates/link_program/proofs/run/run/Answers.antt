@@ -1,6 +1,6 @@
 use Rattle.std.proofs.Common.{inl, inr, subst, ◌∙◌}
 use Rattle.link_rules.specs.Places.{Bytes}
-use Rattle.link_streams.specs.Streams.{Takes}
+use Rattle.link_program_streams.specs.Streams.{Takes}
 use Rattle.link_program.proofs.OneText.{due-or_memory}
 use Rattle.link_program.proofs.run.run.Goals as goal
 

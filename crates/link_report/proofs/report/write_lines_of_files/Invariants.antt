@@ -1,10 +1,10 @@
 use Rattle.std.proofs.Common.{◌≡◌, ◌+◌, ◌++◌, length}
 use Rattle.std.specs.Prelude.{string_bytes}
-use Rattle.link_files.specs.GroupFiles.{symbols_in}
+use Rattle.link_db_files.specs.GroupFiles.{symbols_in}
 use Rattle.link_rules.specs.Places.{each_from}
 use Rattle.link_rules.specs.Report.{joined_lines, symbol_line}
-use Rattle.link_answer.specs.Parts.{answer_of}
-use Rattle.link_answer.specs.Seen.{seen}
+use Rattle.link_core_answer.specs.Parts.{answer_of}
+use Rattle.link_core_answer.specs.Seen.{seen}
 use Rattle.link_report.proofs.Walked.{names_before}
 use Rattle.link_report.proofs.report.write_lines_of_files.Given as goal
 

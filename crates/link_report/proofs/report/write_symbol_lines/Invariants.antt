@@ -2,8 +2,8 @@ use Rattle.std.proofs.Common.{◌≡◌, ◌++◌, drop}
 use Rattle.std.specs.Prelude.{string_bytes}
 use Rattle.link_rules.specs.Places.{each_from}
 use Rattle.link_rules.specs.Report.{joined_lines, symbol_line}
-use Rattle.link_answer.specs.Parts.{answer_of}
-use Rattle.link_answer.specs.Seen.{seen}
+use Rattle.link_core_answer.specs.Parts.{answer_of}
+use Rattle.link_core_answer.specs.Seen.{seen}
 use Rattle.link_report.proofs.report.write_symbol_lines.Given as goal
 
 abbrev pub invariant-loop-id : goal.invariant-loop-id

@@ -2,8 +2,8 @@ use Rattle.std.proofs.Common.{◌≡◌, ◌++◌, drop, map}
 use Rattle.std.specs.List.{flat_map}
 use Rattle.std.specs.Prelude.{string_bytes}
 use Rattle.link_rules.specs.Report.{undefined_line}
-use Rattle.link_answer.specs.Parts.{undefined_name}
-use Rattle.link_answer.specs.Seen.{seen}
+use Rattle.link_core_answer.specs.Parts.{undefined_name}
+use Rattle.link_core_answer.specs.Seen.{seen}
 use Rattle.link_report.proofs.report.write_undefined_lines.Given as goal
 
 abbrev pub invariant-loop-id : goal.invariant-loop-id

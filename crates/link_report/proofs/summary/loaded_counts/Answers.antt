@@ -1,11 +1,11 @@
 use Rattle.std.proofs.Common.{rules, ◌≡◌, ◌∙◌, ◌==◌, ℕ, List, ap, not, sym}
 use Rattle.std.specs.Prelude.{count_by}
 use Rattle.link_closure.specs.Closure.{is_marked}
-use Rattle.link_files.specs.Inputs.{objects_in}
+use Rattle.link_db_files.specs.Inputs.{objects_in}
 use Rattle.link_input.specs.Limits.{total}
 use Rattle.link_input.specs.ObjectFile.{ObjectFile}
-use Rattle.link_answer.specs.Parts.{loaded_among}
-use Rattle.link_answer.specs.Seen.{seen}
+use Rattle.link_core_answer.specs.Parts.{loaded_among}
+use Rattle.link_core_answer.specs.Seen.{seen}
 use Rattle.link_report.specs.Summary.{comdat_count}
 use Rattle.link_report.proofs.Counted.{comdats-told, members-told}
 use Rattle.link_report.proofs.summary.loaded_counts.Goals as goal

@@ -1,8 +1,8 @@
 use Rattle.std.proofs.Common.{◌∙◌, ap, sym}
 use Rattle.link_input.specs.declared.options.Options.{Options}
-use Rattle.link_files.specs.GroupFiles.{symbols_in}
-use Rattle.link_files.specs.HeldFiles.{HeldFiles}
-use Rattle.link_files.specs.Inputs.{objects_in}
+use Rattle.link_db_files.specs.GroupFiles.{symbols_in}
+use Rattle.link_db_files.specs.HeldFiles.{HeldFiles}
+use Rattle.link_db_files.specs.Inputs.{objects_in}
 use Rattle.link_resolve.proofs.Signing.{signatures-are}
 use Rattle.link_resolve.proofs.canonical.group_signatures.Goals as goal
 

@@ -1,5 +1,5 @@
 use Rattle.std.proofs.Common.{length}
-use Rattle.link_mapping.specs.Mapped.{mapping_of}
+use Rattle.link_db_mapping.specs.Mapped.{mapping_of}
 use Rattle.link_db.specs.Database.{symbol_names}
 use Rattle.link_db.specs.Seen.{seen}
 use Rattle.link_resolve.proofs.Mapping.{listed-inside}

@@ -1,9 +1,9 @@
 use Rattle.std.proofs.Common.{◌≡◌, ◌∙◌, [], ap, List}
 use Rattle.std.specs.Prelude.{slice_get}
 use Rattle.std.specs.Option.{option_map_or}
-use Rattle.link_files.specs.GroupFiles.{symbols_in}
+use Rattle.link_db_files.specs.GroupFiles.{symbols_in}
 use Rattle.link_input.specs.Symbols.{Symbol}
-use Rattle.link_rivals.specs.Settled.{name_at}
+use Rattle.link_resolve_rivals.specs.Settled.{name_at}
 use Rattle.link_db.specs.Seen.{seen}
 use Rattle.link_resolve.proofs.Lines.{line-is, symbol-named}
 use Rattle.link_resolve.proofs.duplicates.clash_line.Goals as goal

@@ -1,11 +1,11 @@
 use Rattle.std.proofs.Common.{◌≡◌, ◌∙◌, ◌++◌, List, ap, map, sym}
-use Rattle.link_files.specs.GroupFiles.{symbols_in}
-use Rattle.link_files.specs.HeldFiles.{HeldFiles}
-use Rattle.link_files.specs.Inputs.{objects_in}
-use Rattle.link_groups.specs.declared.group.Group.{Group}
+use Rattle.link_db_files.specs.GroupFiles.{symbols_in}
+use Rattle.link_db_files.specs.HeldFiles.{HeldFiles}
+use Rattle.link_db_files.specs.Inputs.{objects_in}
+use Rattle.link_input_groups.specs.declared.group.Group.{Group}
 use Rattle.link_input.specs.ObjectFile.{ObjectFile}
 use Rattle.link_input.specs.Symbols.{Symbol, object_in}
-use Rattle.link_rivals.specs.Settled.{clash_line}
+use Rattle.link_resolve_rivals.specs.Settled.{clash_line}
 use Rattle.link_rules.specs.Places.{Bytes}
 use Rattle.link_rules.specs.Sorting.{sorted_texts}
 use Rattle.link_resolve.proofs.duplicates.duplicate_lines.Goals as goal

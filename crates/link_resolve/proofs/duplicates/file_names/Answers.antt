@@ -1,5 +1,5 @@
 use Rattle.std.proofs.Common.{map}
-use Rattle.link_files.specs.Inputs.{objects_in}
+use Rattle.link_db_files.specs.Inputs.{objects_in}
 use Rattle.link_resolve.proofs.Lines.{names-more}
 use Rattle.link_resolve.proofs.duplicates.file_names.Goals as goal
 

@@ -1,5 +1,5 @@
 use Rattle.std.proofs.Common.{◌≡◌, ◌++◌, drop, map}
-use Rattle.link_files.specs.Inputs.{objects_in}
+use Rattle.link_db_files.specs.Inputs.{objects_in}
 use Rattle.link_resolve.proofs.duplicates.file_names.Given as goal
 
 -- the names so far, and those that are left

@@ -1,4 +1,4 @@
-use Rattle.link_rivals.specs.Settled.{clash_line}
+use Rattle.link_resolve_rivals.specs.Settled.{clash_line}
 use Rattle.std.proofs.Common.{◌++◌, map}
 use Rattle.link_resolve.proofs.Lines.{line-more}
 use Rattle.link_resolve.proofs.duplicates.push_lines.Goals as goal

@@ -1,7 +1,7 @@
 use Rattle.std.proofs.Common.{◌≡◌, ◌++◌, drop, map}
-use Rattle.link_files.specs.GroupFiles.{symbols_in}
+use Rattle.link_db_files.specs.GroupFiles.{symbols_in}
 use Rattle.link_input.specs.Symbols.{object_in}
-use Rattle.link_rivals.specs.Settled.{clash_line}
+use Rattle.link_resolve_rivals.specs.Settled.{clash_line}
 use Rattle.link_rules.specs.World.{Stage}
 use Rattle.link_db.specs.Seen.{seen}
 use Rattle.link_resolve.proofs.duplicates.push_lines.Given as goal

@@ -1,5 +1,5 @@
 use Rattle.std.proofs.Common.{◌∙◌, ℕ, List, Option, length, subst, sym}
-use Rattle.link_work.specs.Answer.{AreTargetsRead}
+use Rattle.link_resolve_extraction.specs.Answer.{AreTargetsRead}
 use Rattle.link_db.specs.Database.{symbol_names}
 use Rattle.link_db.specs.Seen.{seen}
 use Rattle.link_resolve.proofs.Loaded.{ok-into}

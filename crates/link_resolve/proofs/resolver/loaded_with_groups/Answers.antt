@@ -1,8 +1,8 @@
 use Rattle.std.proofs.Common.{◌≡◌, ◌∙◌, Bool, Err, List, None, ap, subst, sym}
 use Rattle.std.specs.List.{filter_map}
-use Rattle.link_files.specs.Inputs.{objects_in}
-use Rattle.link_groups.specs.declared.group.Group.{Group}
-use Rattle.link_loader.specs.Causes.{TellsCause}
+use Rattle.link_db_files.specs.Inputs.{objects_in}
+use Rattle.link_input_groups.specs.declared.group.Group.{Group}
+use Rattle.link_db_texts.specs.Causes.{TellsCause}
 use Rattle.link_db.proofs.Causes.{tells-through}
 use Rattle.link_rules.proofs.WorldOnce.{one-loaded}
 use Rattle.link_rules.specs.Comdat.{loaded_regular}

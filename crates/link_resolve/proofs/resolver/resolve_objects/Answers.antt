@@ -1,13 +1,13 @@
 use Rattle.std.proofs.Common.{◌∙◌, ℕ, List, Option, ap, length, subst, sym}
-use Rattle.link_work.specs.Requests.{requests_of}
-use Rattle.link_files.specs.GroupFiles.{symbols_in}
-use Rattle.link_files.specs.HeldFiles.{HeldFiles}
+use Rattle.link_resolve_extraction.specs.Requests.{requests_of}
+use Rattle.link_db_files.specs.GroupFiles.{symbols_in}
+use Rattle.link_db_files.specs.HeldFiles.{HeldFiles}
 use Rattle.link_db.proofs.Causes.{tells-through}
 use Rattle.link_rules.specs.Refusals.{group_refusal}
 use Rattle.link_rules.specs.Selection.{selection_of}
-use Rattle.link_symbols.specs.Lookups.{AreBelow}
-use Rattle.link_work.specs.Answer.{AreFoundBelow}
-use Rattle.link_work.specs.declared.found.FoundItem.{FoundItem}
+use Rattle.link_db_symbols.specs.Lookups.{AreBelow}
+use Rattle.link_resolve_extraction.specs.Answer.{AreFoundBelow}
+use Rattle.link_resolve_extraction.specs.declared.found.FoundItem.{FoundItem}
 use Rattle.link_db.specs.Database.{symbol_names}
 use Rattle.link_db.specs.Seen.{seen}
 use Rattle.link_resolve.specs.Known.{Known}

@@ -1,12 +1,12 @@
 use Rattle.std.proofs.Common.{◌≡◌, ◌∙◌, List, ap, length, map, refl, subst, sym}
 use Rattle.std.proofs.lemmas.List.{length-map}
-use Rattle.link_files.specs.GroupFiles.{symbols_in}
+use Rattle.link_db_files.specs.GroupFiles.{symbols_in}
 use Rattle.link_flags.specs.FlagWords.{numbers_of, words_of}
 use Rattle.link_input.specs.Symbols.{Symbol, is_shared, visibility_in}
-use Rattle.link_loader.specs.Holds.{platform_of}
-use Rattle.link_rivals.proofs.NarrowPass.{narrowed-twice}
-use Rattle.link_rivals.specs.Lists.{AreLists}
-use Rattle.link_rivals.specs.Narrowed.{AreSeen, narrowed}
+use Rattle.link_db_texts.specs.Holds.{platform_of}
+use Rattle.link_resolve_rivals.proofs.NarrowPass.{narrowed-twice}
+use Rattle.link_resolve_rivals.specs.Lists.{AreLists}
+use Rattle.link_resolve_rivals.specs.Narrowed.{AreSeen, narrowed}
 use Rattle.link_db.specs.Seen.{seen}
 use Rattle.link_resolve.proofs.Behind.{plain-are, versioned-are}
 use Rattle.link_resolve.specs.Lists.{plain_rivals, versioned_rivals}

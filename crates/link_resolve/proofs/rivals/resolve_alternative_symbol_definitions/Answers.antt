@@ -1,4 +1,4 @@
-use Rattle.link_loader.specs.Holds.{platform_of}
+use Rattle.link_db_texts.specs.Holds.{platform_of}
 use Rattle.link_db.specs.Seen.{seen}
 use Rattle.link_resolve.proofs.Settling.{settled-by}
 use Rattle.link_resolve.proofs.rivals.resolve_alternative_symbol_definitions.Goals as goal

@@ -1,9 +1,9 @@
 use Rattle.std.proofs.Common.{◌≡◌, ◌∙◌, List, Bool, ap, map}
-use Rattle.link_files.specs.GroupFiles.{symbols_in}
-use Rattle.link_files.specs.HeldFiles.{HeldFiles}
+use Rattle.link_db_files.specs.GroupFiles.{symbols_in}
+use Rattle.link_db_files.specs.HeldFiles.{HeldFiles}
 use Rattle.link_input.specs.declared.options.Options.{Options}
 use Rattle.link_input.specs.Symbols.{Symbol}
-use Rattle.link_loader.specs.Holds.{platform_of}
+use Rattle.link_db_texts.specs.Holds.{platform_of}
 use Rattle.link_rules.specs.Rivals.{is_in_loaded_regular}
 use Rattle.link_db.specs.Seen.{seen}
 use Rattle.link_resolve.proofs.Telling.{tells-of}

@@ -1,8 +1,8 @@
 use Rattle.std.proofs.Common.{◌∙◌, ap, map, subst, sym}
-use Rattle.link_files.specs.GroupFiles.{symbols_in}
-use Rattle.link_files.specs.Inputs.{objects_in}
-use Rattle.link_loader.specs.Causes.{TellsCause}
-use Rattle.link_rivals.specs.Settled.{clash_line}
+use Rattle.link_db_files.specs.GroupFiles.{symbols_in}
+use Rattle.link_db_files.specs.Inputs.{objects_in}
+use Rattle.link_db_texts.specs.Causes.{TellsCause}
+use Rattle.link_resolve_rivals.specs.Settled.{clash_line}
 use Rattle.link_rules.specs.Refusals.{duplicate_lines, unless_none}
 use Rattle.link_db.specs.Database.{Database}
 use Rattle.link_db.specs.Seen.{seen}

@@ -1,6 +1,6 @@
 use Rattle.std.proofs.Common.{◌≡◌, ◌∙◌, ap, subst, sym}
-use Rattle.link_buckets.proofs.Releasing.{all_written}
-use Rattle.link_loader.specs.Holds.{platform_of}
+use Rattle.link_db_buckets.proofs.Releasing.{all_written}
+use Rattle.link_db_texts.specs.Holds.{platform_of}
 use Rattle.link_rules.specs.Rivals.{reference_table}
 use Rattle.link_db.specs.Database.{Database}
 use Rattle.link_db.specs.Seen.{seen}

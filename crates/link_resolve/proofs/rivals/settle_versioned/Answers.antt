@@ -1,10 +1,10 @@
 use Rattle.std.proofs.Common.{◌∙◌, List, ap, map, subst, sym}
-use Rattle.link_files.specs.GroupFiles.{symbols_in}
+use Rattle.link_db_files.specs.GroupFiles.{symbols_in}
 use Rattle.link_input.specs.Symbols.{Symbol}
-use Rattle.link_loader.specs.Holds.{platform_of}
-use Rattle.link_rivals.proofs.Tables.{versioned-lines, versioned-settled}
-use Rattle.link_rivals.specs.Lists.{AreLists}
-use Rattle.link_rivals.specs.Settled.{clash_line, clashes, settled_table}
+use Rattle.link_db_texts.specs.Holds.{platform_of}
+use Rattle.link_resolve_rivals.proofs.Tables.{versioned-lines, versioned-settled}
+use Rattle.link_resolve_rivals.specs.Lists.{AreLists}
+use Rattle.link_resolve_rivals.specs.Settled.{clash_line, clashes, settled_table}
 use Rattle.link_db.specs.Seen.{seen}
 use Rattle.link_resolve.proofs.Behind.{versioned-are}
 use Rattle.link_resolve.specs.Lists.{versioned_rivals}

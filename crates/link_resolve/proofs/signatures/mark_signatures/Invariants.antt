@@ -1,7 +1,7 @@
 use Rattle.std.proofs.Common.{◌≡◌, drop, map}
 use Rattle.link_flags.specs.FlagBits as flag
 use Rattle.link_flags.specs.FlagWords.{numbers_of, words_of}
-use Rattle.link_marking.specs.Marks.{mark_on, with_marks}
+use Rattle.link_resolve_marks.specs.Marks.{mark_on, with_marks}
 use Rattle.link_rules.specs.Rivals.{two_steps}
 use Rattle.link_db.specs.Seen.{seen}
 use Rattle.link_resolve.proofs.signatures.mark_signatures.Given as goal

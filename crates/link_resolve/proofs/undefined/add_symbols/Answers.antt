@@ -1,7 +1,7 @@
 use Rattle.std.proofs.Common.{◌++◌, [], ◌∷◌, ap, arith, length, length-append, subst, sym}
 use Rattle.std.proofs.lemmas.List.{length-map}
-use Rattle.link_files.proofs.Changing.{ends-kept}
-use Rattle.link_files.specs.Adding.{EndsInSynthetic}
+use Rattle.link_db_files.proofs.Changing.{ends-kept}
+use Rattle.link_db_files.specs.Adding.{EndsInSynthetic}
 use Rattle.link_flags.specs.FlagBits as flag
 use Rattle.link_flags.specs.FlagWords.{numbers_of, words_of}
 use Rattle.link_flags.specs.declared.value_flags.RawFlags.{RawFlags}

@@ -1,5 +1,5 @@
 use Rattle.std.proofs.Common.{◌≡◌, length}
-use Rattle.link_files.specs.Adding.{EndsInSynthetic}
+use Rattle.link_db_files.specs.Adding.{EndsInSynthetic}
 use Rattle.link_flags.specs.FlagWords.{words_of}
 use Rattle.link_db.specs.Database.{HasTable, symbol_names}
 use Rattle.link_db.specs.Seen.{seen}

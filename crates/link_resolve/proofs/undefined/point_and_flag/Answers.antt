@@ -2,10 +2,10 @@ use Rattle.std.proofs.Common.{◌≡◌, ◌+◌, ◌<◌, ◌∙◌, ℕ, List,
 use Rattle.std.specs.Prelude.{slice_index_or}
 use Rattle.std.proofs.lemmas.List.{length-map}
 use Rattle.std.proofs.lemmas.List.Elements.{All-weaker}
-use Rattle.link_files.specs.GroupFiles.{symbols_in}
+use Rattle.link_db_files.specs.GroupFiles.{symbols_in}
 use Rattle.link_rules.specs.Undefined.{Numbered, boundary_makers, left_undefined}
-use Rattle.link_undefined.specs.Asked.{AreBelow, makers_in}
-use Rattle.link_undefined.specs.Records.{numbered_at}
+use Rattle.link_resolve_undefined.specs.Asked.{AreBelow, makers_in}
+use Rattle.link_resolve_undefined.specs.Records.{numbered_at}
 use Rattle.link_db.specs.Database.{symbol_names}
 use Rattle.link_db.specs.Seen.{seen}
 use Rattle.link_resolve.proofs.Settling.{count-symbols, names-made-for, told-of}

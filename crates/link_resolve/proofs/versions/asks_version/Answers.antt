@@ -1,7 +1,7 @@
 use Rattle.std.proofs.Common.{◌≡◌, ◌==◌, ◌&&◌, ◌∙◌, Bool, List, false, not, ap, refl, sym}
 use Rattle.link_input.specs.Entries.{is_local}
 use Rattle.link_input.specs.Symbols.{entry_passes}
-use Rattle.link_loader.specs.Holds.{platform_of}
+use Rattle.link_db_texts.specs.Holds.{platform_of}
 use Rattle.link_rules.specs.Rivals.{is_in_loaded_regular, two_steps}
 use Rattle.link_rules.specs.World.{is_definition}
 use Rattle.link_db.specs.Seen.{seen}

@@ -1,6 +1,6 @@
 use Rattle.std.proofs.Common.{◌∙◌, List, Option, ap, is_none, subst, sym}
 use Rattle.std.specs.Borrow.{Bor}
-use Rattle.link_loader.specs.Holds.{AreRulesOf, platform_of}
+use Rattle.link_db_texts.specs.Holds.{AreRulesOf, platform_of}
 use Rattle.link_rules.specs.Places.{Bytes}
 use Rattle.link_resolve.proofs.Giving.{none-told}
 use Rattle.link_resolve.proofs.versions.has_regular_script.Goals as goal

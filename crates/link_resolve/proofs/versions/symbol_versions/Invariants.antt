@@ -1,6 +1,6 @@
 use Rattle.std.proofs.Common.{◌≡◌, ◌+◌, ◌++◌, length}
-use Rattle.link_files.specs.GroupFiles.{symbols_in}
-use Rattle.link_loader.specs.Holds.{platform_of}
+use Rattle.link_db_files.specs.GroupFiles.{symbols_in}
+use Rattle.link_db_texts.specs.Holds.{platform_of}
 use Rattle.link_rules.specs.Selection.{Selection}
 use Rattle.link_rules.specs.Undefined.{resolved}
 use Rattle.link_rules.specs.Versions.{version_given, version_refusal, versions_given}

@@ -1,5 +1,5 @@
 use Rattle.std.proofs.Common.{◌≡◌, ◌∙◌, true, false, ap, subst, sym}
-use Rattle.link_loader.specs.Causes.{TellsCause}
+use Rattle.link_db_texts.specs.Causes.{TellsCause}
 use Rattle.link_rules.specs.Undefined.{Numbered, resolved}
 use Rattle.link_rules.specs.Versions.{asks_version, undeclared_version}
 use Rattle.link_resolve.proofs.Giving.{given-asked, given-unasked}

@@ -1,5 +1,5 @@
 use Rattle.std.proofs.Common.{◌∙◌, sym, ap, None, Option}
-use Rattle.link_syntax.specs.declared.body.Side.{Side}
+use Rattle.link_script_syntax.specs.declared.body.Side.{Side}
 use Rattle.link_script.specs.Lookup.{seen}
 use Rattle.link_script.specs.Rules.{placed}
 use Rattle.link_script.proofs.Indexed.{no_exact, exact_at}

@@ -1,6 +1,6 @@
 use Rattle.std.proofs.Common.{◌<◌, ◌∙◌, sym, ap, subst, ℕ, length, Option}
 use Rattle.std.specs.Prelude.{All}
-use Rattle.link_syntax.specs.declared.body.Side.{Side}
+use Rattle.link_script_syntax.specs.declared.body.Side.{Side}
 use Rattle.link_script.specs.Lookup.{seen}
 use Rattle.link_script.specs.Rules.{placed}
 use Rattle.link_script.proofs.Indexed.{last_among, past, among_all, all_below, all_in_front}

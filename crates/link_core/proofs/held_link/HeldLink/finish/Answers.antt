@@ -1,12 +1,12 @@
 use Rattle.std.proofs.Common.{◌≡◌, ◌⊎◌, ◌<◌, Option, length, subst, sym}
 use Rattle.std.specs.Prelude.{IfErr, IfSome}
 use Rattle.link_flags.specs.FlagWords.{words_of}
-use Rattle.link_loader.specs.Holds.{platform_of}
+use Rattle.link_db_texts.specs.Holds.{platform_of}
 use Rattle.link_rules.specs.declared.refusal.LinkError.TheVariants.{Memory}
 use Rattle.link_rules.specs.Answer.{IsLinked, IsRefused}
 use Rattle.link_rules.specs.World.{World}
-use Rattle.link_answer.specs.Parts.{answer_of}
-use Rattle.link_answer.specs.Seen as answer
+use Rattle.link_core_answer.specs.Parts.{answer_of}
+use Rattle.link_core_answer.specs.Seen as answer
 use Rattle.link_db.specs.Seen.{seen}
 use Rattle.link_core.specs.SessionErrors.{IsCause}
 use Rattle.link_core.specs.Sessions.{Held, held_world, world_of_batches}

@@ -1,6 +1,6 @@
 use Rattle.std.proofs.Common.{List, Some, subst, sym}
 use Rattle.link_flags.specs.FlagWords.{words_of}
-use Rattle.link_loader.specs.Holds.{platform_of}
+use Rattle.link_db_texts.specs.Holds.{platform_of}
 use Rattle.link_db.specs.Seen.{seen}
 use Rattle.link_core.specs.declared.batch_size.BatchSize.{BatchSize}
 use Rattle.link_core.specs.Sizes.{batches_in}

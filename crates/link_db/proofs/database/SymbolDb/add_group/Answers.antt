@@ -1,4 +1,4 @@
-use Rattle.link_mapping.specs.Seen as names
+use Rattle.link_db_mapping.specs.Seen as names
 use Rattle.link_db.specs.Seen.{seen}
 use Rattle.link_db.proofs.LinkerGroups.{sound-either}
 use Rattle.link_db.proofs.database.SymbolDb.add_group.Goals as goal

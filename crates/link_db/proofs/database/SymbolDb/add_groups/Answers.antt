@@ -2,17 +2,17 @@ use Rattle.std.proofs.Common.{length-append, drop, ◌≡◌, ◌+◌, ◌<◌, 
 use Rattle.std.proofs.lemmas.List.FromFn.{length-range_with_len}
 use Rattle.std.specs.List.{AllZip, flat_map, range_with_len}
 use Rattle.link_flags.specs.FlagWords.{numbers_of, words_of}
-use Rattle.link_groups.specs.declared.group.Group.{Group}
-use Rattle.link_groups.specs.Asked.{AllCanBeAsked}
-use Rattle.link_files.specs.HeldFiles.{HeldFiles, names_in}
-use Rattle.link_files.specs.GroupFiles.{symbols_in}
-use Rattle.link_loader.specs.Holds.{platform_of}
-use Rattle.link_mapping.specs.Seen as names
-use Rattle.link_mapping.proofs.Batches.{read_behind}
-use Rattle.link_reading.specs.declared.read_symbols.ReadSymbols.{ReadSymbols}
-use Rattle.link_reading.specs.Files.{AllCanBeRead, IsStageBy, file_definitions, file_flags}
-use Rattle.link_reading.specs.Parts.{HasAllFlags}
-use Rattle.link_groups.specs.Groups.{files_of}
+use Rattle.link_input_groups.specs.declared.group.Group.{Group}
+use Rattle.link_input_groups.specs.Asked.{AllCanBeAsked}
+use Rattle.link_db_files.specs.HeldFiles.{HeldFiles, names_in}
+use Rattle.link_db_files.specs.GroupFiles.{symbols_in}
+use Rattle.link_db_texts.specs.Holds.{platform_of}
+use Rattle.link_db_mapping.specs.Seen as names
+use Rattle.link_db_mapping.proofs.Batches.{read_behind}
+use Rattle.link_db_ingest.specs.declared.read_symbols.ReadSymbols.{ReadSymbols}
+use Rattle.link_db_ingest.specs.Files.{AllCanBeRead, IsStageBy, file_definitions, file_flags}
+use Rattle.link_db_ingest.specs.Parts.{HasAllFlags}
+use Rattle.link_input_groups.specs.Groups.{files_of}
 use Rattle.link_rules.specs.Opening.{opening_flags}
 use Rattle.link_db.specs.Adding.{flags_in}
 use Rattle.link_db.specs.Seen.{seen}

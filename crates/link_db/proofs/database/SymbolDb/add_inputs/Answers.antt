@@ -2,18 +2,18 @@ use Rattle.std.proofs.Common.{◌≡◌, ◌++◌, ◌==◌, [], ◌∷◌, ◌�
 use Rattle.std.specs.Prelude.{not, IsTrue}
 use Rattle.std.specs.List.{flat_map}
 use Rattle.std.specs.Option.{option_or}
-use Rattle.link_groups.specs.declared.group.Group.{Group}
+use Rattle.link_input_groups.specs.declared.group.Group.{Group}
 use Rattle.link_input.specs.declared.world.ProcessedLinkerScript.{ProcessedLinkerScript}
 use Rattle.link_input.specs.InputFiles.{Batch, batch_of}
 use Rattle.link_input.specs.Limits.{counts_of, first_excess}
-use Rattle.link_files.specs.Inputs.{scripts_in}
-use Rattle.link_files.specs.HeldFiles.{HeldFiles}
+use Rattle.link_db_files.specs.Inputs.{scripts_in}
+use Rattle.link_db_files.specs.HeldFiles.{HeldFiles}
 use Rattle.link_rules.specs.declared.refusal.LinkError.{LinkError}
 use Rattle.link_rules.specs.Places.{is_empty}
 use Rattle.link_rules.specs.Refusals.{linker_script_cause, too_many}
-use Rattle.link_loader.specs.Causes.{TellsCause}
-use Rattle.link_loader.specs.Holds.{HoldsTexts, platform_of}
-use Rattle.link_loader.specs.ReadTexts.{ReadTexts, with_taken}
+use Rattle.link_db_texts.specs.Causes.{TellsCause}
+use Rattle.link_db_texts.specs.Holds.{HoldsTexts, platform_of}
+use Rattle.link_db_texts.specs.ReadTexts.{ReadTexts, with_taken}
 use Rattle.link_db.specs.Seen.{seen}
 use Rattle.link_db.proofs.Causes.{empty-counted, few-scripts, neither, refused-not-ok, same-cause, tells-first, tells-other, tells-through}
 use Rattle.link_db.proofs.database.SymbolDb.add_inputs.Goals as goal

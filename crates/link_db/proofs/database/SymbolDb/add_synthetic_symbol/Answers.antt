@@ -1,7 +1,7 @@
 use Rattle.std.proofs.Common.{◌≡◌, ◌+◌, ◌<◌, ◌++◌, ◌∙◌, ℕ, List, [], ◌∷◌, All, length, sym, ap, subst, arith, length-append}
-use Rattle.link_files.specs.HeldFiles.{HeldFiles, names_in}
-use Rattle.link_files.proofs.Changing.{names-kept}
-use Rattle.link_mapping.specs.Seen as names
+use Rattle.link_db_files.specs.HeldFiles.{HeldFiles, names_in}
+use Rattle.link_db_files.proofs.Changing.{names-kept}
+use Rattle.link_db_mapping.specs.Seen as names
 use Rattle.link_db.specs.Seen.{seen}
 use Rattle.link_db.specs.Synthetic.{with_listed_symbol}
 use Rattle.link_db.proofs.Ids.{grown-within}

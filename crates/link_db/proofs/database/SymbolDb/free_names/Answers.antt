@@ -7,7 +7,7 @@ use Rattle.link_db.specs.RustScript.{freed_by, freed_symbols}
 use Rattle.link_db.specs.Seen.{seen}
 use Rattle.link_db.proofs.Freed.{freed-none}
 use Rattle.link_db.proofs.FreedNames.{freed-named}
-use Rattle.link_loader.proofs.Forced.{rest_is}
+use Rattle.link_db_texts.proofs.Forced.{rest_is}
 use Rattle.link_db.proofs.database.SymbolDb.free_names.Goals as goal
 
 -- one name more is freed

@@ -1,5 +1,5 @@
 use Rattle.std.proofs.Common.{◌∙◌, ap}
-use Rattle.link_mapping.specs.Mapped.{mapped_key}
+use Rattle.link_db_mapping.specs.Mapped.{mapped_key}
 use Rattle.link_db.specs.Seen.{seen}
 use Rattle.link_db.proofs.Lookups.{mapped_by_key}
 use Rattle.link_db.proofs.database.SymbolDb.mapped.Goals as goal

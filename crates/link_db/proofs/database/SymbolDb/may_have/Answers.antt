@@ -1,6 +1,6 @@
 use Rattle.std.proofs.Common.{◌≡◌, Option, None, Some, false}
-use Rattle.link_buckets.specs.Keys.{hash_of}
-use Rattle.link_mapping.specs.Keys.{plain_key, versioned_key}
+use Rattle.link_db_buckets.specs.Keys.{hash_of}
+use Rattle.link_db_mapping.specs.Keys.{plain_key, versioned_key}
 use Rattle.link_rules.specs.Places.{Bytes}
 use Rattle.link_rules.specs.Targets.{mapped_in}
 use Rattle.link_db.specs.Database.{name_table_of}

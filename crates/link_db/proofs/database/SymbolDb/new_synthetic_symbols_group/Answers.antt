@@ -1,5 +1,5 @@
-use Rattle.link_files.specs.Adding.{synthetic_group}
-use Rattle.link_mapping.specs.Seen as names
+use Rattle.link_db_files.specs.Adding.{synthetic_group}
+use Rattle.link_db_mapping.specs.Seen as names
 use Rattle.link_db.specs.Seen.{seen}
 use Rattle.link_db.proofs.LinkerGroups.{sound-either, synthetic-follows}
 use Rattle.link_db.proofs.database.SymbolDb.new_synthetic_symbols_group.Goals as goal

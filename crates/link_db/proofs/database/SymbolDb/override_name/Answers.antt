@@ -1,6 +1,6 @@
 use Rattle.std.proofs.Common.{◌∙◌, ap}
-use Rattle.link_mapping.specs.Mapped.{Mapped, mapping_of}
-use Rattle.link_mapping.proofs.Wraps.{override_maps}
+use Rattle.link_db_mapping.specs.Mapped.{Mapped, mapping_of}
+use Rattle.link_db_mapping.proofs.Wraps.{override_maps}
 use Rattle.link_rules.specs.Names.{Mapping}
 use Rattle.link_db.specs.Seen.{seen}
 use Rattle.link_db.proofs.database.SymbolDb.override_name.Goals as goal

@@ -1,6 +1,6 @@
 use Rattle.std.proofs.Common.{◌<◌, ◌∙◌, ap, sym, subst, length, IfSome}
 use Rattle.link_flags.specs.Pick.{pick}
-use Rattle.link_files.specs.HeldFiles.{names_in}
+use Rattle.link_db_files.specs.HeldFiles.{names_in}
 use Rattle.link_db.specs.Seen.{seen}
 use Rattle.link_db.specs.Unshared.{unshared}
 use Rattle.link_db.proofs.Lookups.{pick-below, unshared-below}

@@ -1,6 +1,6 @@
 use Rattle.std.proofs.Common.{ap, take}
-use Rattle.link_mapping.specs.Mapped.{Mapped}
-use Rattle.link_mapping.specs.Seen as names
+use Rattle.link_db_mapping.specs.Mapped.{Mapped}
+use Rattle.link_db_mapping.specs.Seen as names
 use Rattle.link_db.specs.Seen.{seen}
 use Rattle.link_db.proofs.SameMapping.{same-mapped}
 use Rattle.link_db.proofs.database.SymbolDb.release_alternatives.Goals as goal

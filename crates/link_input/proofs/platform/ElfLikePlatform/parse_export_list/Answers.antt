@@ -1,6 +1,6 @@
 use Rattle.std.proofs.Common.{◌≡◌, ℕ, List, [], Result, Ok, Err, IfOk, refl, rules}
 use Rattle.link_script.specs.declared.export_list.ExportList.{ExportList}
-use Rattle.link_syntax.specs.declared.fault.ScriptFault.{ScriptFault}
+use Rattle.link_script_syntax.specs.declared.fault.ScriptFault.{ScriptFault}
 use Rattle.link_script.specs.ExportList.{IsGnuList}
 use Rattle.link_script.specs.ListedNames.{ListedNames, IsListNamed, gnu_names}
 use Rattle.link_input.proofs.platform.ElfLikePlatform.parse_export_list.Goals as goal

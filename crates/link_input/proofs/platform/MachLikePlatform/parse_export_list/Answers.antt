@@ -1,10 +1,10 @@
 use Rattle.std.proofs.Common.{◌≡◌, ℕ, List, [], ◌∷◌, Result, Ok, Err, IfOk, refl, rules}
 use Rattle.link_script.specs.declared.export_list.ExportList.{ExportList}
-use Rattle.link_syntax.specs.declared.fault.ScriptFault.{ScriptFault}
-use Rattle.link_syntax.specs.declared.matcher.ParsedSymbolMatcher.TheVariants.{Multiple}
+use Rattle.link_script_syntax.specs.declared.fault.ScriptFault.{ScriptFault}
+use Rattle.link_script_syntax.specs.declared.matcher.ParsedSymbolMatcher.TheVariants.{Multiple}
 use Rattle.link_script.specs.ExportList.{IsMachoList}
 use Rattle.link_script.specs.ListedNames.{ListedNames, IsListNamed, macho_names}
-use Rattle.link_syntax.specs.MachoList.{exact_names}
+use Rattle.link_script_syntax.specs.MachoList.{exact_names}
 use Rattle.link_input.proofs.platform.MachLikePlatform.parse_export_list.Goals as goal
 
 -- a list that is read as one of Mach-O is what the text says

@@ -1,5 +1,5 @@
 use Rattle.std.proofs.Common.{◌∙◌, sym}
-use Rattle.link_loader.specs.Holds.{platform_of}
+use Rattle.link_db_texts.specs.Holds.{platform_of}
 use Rattle.link_db.specs.Seen.{seen}
 use Rattle.link_resolve.proofs.Behind.{plain-later}
 use Rattle.link_resolve.proofs.lists.PlainListsRivalLists.later.Goals as goal

@@ -1,8 +1,8 @@
 use Rattle.std.proofs.Common.{◌∙◌, ℕ, List, ap, map, subst, sym}
-use Rattle.link_discarding.specs.Indexed.{AreGroupsOf, IndexedGroups}
+use Rattle.link_resolve_discarded.specs.Indexed.{AreGroupsOf, IndexedGroups}
 use Rattle.link_flags.specs.FlagBits as flag
 use Rattle.link_flags.specs.FlagWords.{numbers_of, words_of}
-use Rattle.link_marking.specs.Marks.{mark_on, with_marks}
+use Rattle.link_resolve_marks.specs.Marks.{mark_on, with_marks}
 use Rattle.link_rules.specs.Rivals.{two_steps}
 use Rattle.link_db.specs.Seen.{seen}
 use Rattle.link_resolve.specs.Known.{Known}

@@ -1,16 +1,16 @@
 use Rattle.std.proofs.Common.{◌≡◌, ◌∙◌, Bool, Err, List, None, ap, subst, sym}
 use Rattle.std.specs.List.{filter_map}
-use Rattle.link_files.specs.Inputs.{objects_in}
-use Rattle.link_groups.specs.declared.group.Group.{Group}
-use Rattle.link_loader.specs.Causes.{TellsCause}
+use Rattle.link_db_files.specs.Inputs.{objects_in}
+use Rattle.link_input_groups.specs.declared.group.Group.{Group}
+use Rattle.link_db_texts.specs.Causes.{TellsCause}
 use Rattle.link_db.proofs.Causes.{tells-through}
 use Rattle.link_rules.specs.Comdat.{loaded_regular}
 use Rattle.link_rules.specs.Places.{first_of}
 use Rattle.link_rules.specs.Refusals.{group_cause, group_refusal}
 use Rattle.link_rules.specs.Selection.{selection_of}
-use Rattle.link_files.specs.GroupFiles.{symbols_in}
-use Rattle.link_files.specs.HeldFiles.{HeldFiles}
-use Rattle.link_loader.specs.Holds.{platform_of}
+use Rattle.link_db_files.specs.GroupFiles.{symbols_in}
+use Rattle.link_db_files.specs.HeldFiles.{HeldFiles}
+use Rattle.link_db_texts.specs.Holds.{platform_of}
 use Rattle.link_db.specs.Database.{Database}
 use Rattle.link_db.specs.Seen.{seen}
 use Rattle.link_resolve.specs.Known.{IsLoadedSelection}

@@ -1,17 +1,17 @@
 use Rattle.std.proofs.Common.{◌∙◌, Bool, Err, List, ap, arith, length, sym}
-use Rattle.link_work.specs.Requests.{requests_of}
+use Rattle.link_resolve_extraction.specs.Requests.{requests_of}
 use Rattle.link_claim.specs.Seats.{claimed_in}
 use Rattle.link_closure.specs.declared.workload.Workload.{Workload}
 use Rattle.link_flags.specs.FlagWords.{numbers_of, words_of}
-use Rattle.link_loader.specs.Causes.{TellsCause}
-use Rattle.link_loader.specs.Holds.{platform_of}
+use Rattle.link_db_texts.specs.Causes.{TellsCause}
+use Rattle.link_db_texts.specs.Holds.{platform_of}
 use Rattle.link_rules.specs.Refusals.{empty_refusal, group_refusal}
 use Rattle.link_rules.specs.Marking.{marked_flags}
 use Rattle.link_rules.specs.Selection.{selection_of}
 use Rattle.link_rules.specs.Work.{workload_of}
 use Rattle.link_rules.proofs.WorldOnce.{one-loaded}
-use Rattle.link_work.specs.Planned.{opening_of}
-use Rattle.link_work.proofs.AnswerFlags.{claimed-are, closed-length, flags-are, work-is}
+use Rattle.link_resolve_extraction.specs.Planned.{opening_of}
+use Rattle.link_resolve_extraction.proofs.AnswerFlags.{claimed-are, closed-length, flags-are, work-is}
 use Rattle.link_db.proofs.Causes.{neither, tells-other, tells-through}
 use Rattle.link_db.specs.Database.{Database}
 use Rattle.link_db.specs.Seen.{seen}

@@ -1,7 +1,7 @@
-use Rattle.link_syntax.specs.ForcedName.{added_entry}
-use Rattle.link_syntax.specs.ListFaults.{AddedFails}
-use Rattle.link_syntax.specs.ListGrammar.{IsAddedEntry}
-use Rattle.link_syntax.proofs.ListLaws.{added_judged}
+use Rattle.link_script_syntax.specs.ForcedName.{added_entry}
+use Rattle.link_script_syntax.specs.ListFaults.{AddedFails}
+use Rattle.link_script_syntax.specs.ListGrammar.{IsAddedEntry}
+use Rattle.link_script_syntax.proofs.ListLaws.{added_judged}
 use Rattle.link_script.proofs.Refused.{is_fault, is_refused, added_read}
 use Rattle.link_script.proofs.export_list.ExportList.add_symbol.Goals as goal
 

@@ -1,7 +1,7 @@
-use Rattle.link_syntax.specs.GnuList.{gnu_list}
-use Rattle.link_syntax.specs.ListFaults.{ListFails}
-use Rattle.link_syntax.specs.ListGrammar.{IsExportList}
-use Rattle.link_syntax.proofs.ListLaws.{list_judged}
+use Rattle.link_script_syntax.specs.GnuList.{gnu_list}
+use Rattle.link_script_syntax.specs.ListFaults.{ListFails}
+use Rattle.link_script_syntax.specs.ListGrammar.{IsExportList}
+use Rattle.link_script_syntax.proofs.ListLaws.{list_judged}
 use Rattle.link_script.proofs.Refused.{is_fault, is_refused, gnu_read}
 use Rattle.link_script.proofs.export_list.ExportList.parse_gnu.Goals as goal
 

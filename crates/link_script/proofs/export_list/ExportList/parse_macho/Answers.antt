@@ -1,6 +1,6 @@
-use Rattle.link_syntax.specs.MachoGrammar.{IsMachoList, MachoFails}
-use Rattle.link_syntax.specs.MachoList.{macho_list}
-use Rattle.link_syntax.proofs.MachoLaws.{macho_judged}
+use Rattle.link_script_syntax.specs.MachoGrammar.{IsMachoList, MachoFails}
+use Rattle.link_script_syntax.specs.MachoList.{macho_list}
+use Rattle.link_script_syntax.proofs.MachoLaws.{macho_judged}
 use Rattle.link_script.proofs.Refused.{is_fault, is_refused, macho_read}
 use Rattle.link_script.proofs.export_list.ExportList.parse_macho.Goals as goal
 

@@ -1,5 +1,5 @@
 use Rattle.std.proofs.Common.{arith, subst, List}
-use Rattle.link_syntax.specs.declared.matcher.SymbolMatcher.{SymbolMatcher}
+use Rattle.link_script_syntax.specs.declared.matcher.SymbolMatcher.{SymbolMatcher}
 use Rattle.link_script.specs.Filter.{Adds}
 use Rattle.link_script.specs.Room.{HasRoom}
 use Rattle.link_script.proofs.Pushing.{from_ok, goes_over}

@@ -1,6 +1,0 @@
-use Rattle.link_buckets.specs.Heads.{has_hash}
-use Rattle.link_buckets.proofs.Search.{AreLeft}
-use Rattle.link_buckets.proofs.bucket.Bucket.may_have.Given as goal
-
-abbrev pub invariant-loop-place : goal.invariant-loop-place
-invariant-loop-place l = AreLeft (has_hash l.hash) l.self.heads.items l.place-iterator

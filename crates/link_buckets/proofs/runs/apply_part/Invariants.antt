@@ -1,6 +1,0 @@
-use Rattle.std.proofs.Common.{take}
-use Rattle.link_buckets.specs.Runs.{AreGrown}
-use Rattle.link_buckets.proofs.runs.apply_part.Given as goal
-
-abbrev pub invariant-loop-at : goal.invariant-loop-at
-invariant-loop-at g l = AreGrown (g.T.Names.key_at l.table) l.count l.first (take l.at l.definitions) l.fn.run l.run

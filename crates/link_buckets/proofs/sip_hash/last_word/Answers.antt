@@ -1,7 +1,0 @@
-use Rattle.std.proofs.Common.{arith}
-use Rattle.link_buckets.specs.SipHash.{last_word}
-use Rattle.link_buckets.proofs.sip_hash.last_word.Goals as goal
-
-pub returns : goal.returns
-unfolding last_word
-returns c = omega (arith, c.rest_word.ensures)

@@ -1,7 +1,0 @@
-use Rattle.std.proofs.Common.{refl}
-use Rattle.link_buckets.specs.SipHash.{sip_start}
-use Rattle.link_buckets.proofs.sip_hash.sip_start.Goals as goal
-
-pub returns : goal.returns
-unfolding sip_start
-returns c = refl

@@ -1,9 +1,0 @@
-use Rattle.std.proofs.Common.{ℕ}
-use Rattle.std.specs.Prelude.{option_map, slice_get}
-use Rattle.link_buckets.specs.declared.label.Label.TheVariants.{Plain, Versioned, Added}
-use Rattle.link_buckets.specs.Buckets.{AreKeyed}
-use Rattle.link_buckets_tests.proofs.buckets.calls_change_one_name.Given as goal
-
-abbrev pub invariant-loop-call : goal.invariant-loop-call
-invariant-loop-call g l =
-    AreKeyed (λ label. option_map (λ e. record { name = e.name; version = e.version }) (slice_get l.table.entries.items (elim label as (λ _. ℕ) [ Plain n ↦ n | Versioned n ↦ n | Added n ↦ n ]))) l.buckets

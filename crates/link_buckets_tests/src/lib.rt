@@ -1,5 +1,0 @@
-//! Tests of `link_buckets`, beside which none stand: a crate with tests is proved twice.
-#![tactic(auto)]
-
-#[cfg(test)]
-mod buckets;

@@ -1,8 +1,0 @@
-use Rattle.std.proofs.Common.{◌≡◌, map}
-use Rattle.std.specs.List.{range_with_len}
-use Rattle.link_bulk.specs.Bulk.{bulk_object}
-use Rattle.link_bulk.proofs.manifest.bulk_objects.Given as goal
-
--- the objects of the places so far
-abbrev pub invariant-loop-place : goal.invariant-loop-place
-invariant-loop-place l = l.objects.items ≡ map (bulk_object l.members) (range_with_len 0 l.place)

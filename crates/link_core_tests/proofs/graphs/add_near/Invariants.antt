@@ -1,5 +1,0 @@
-use Rattle.link_closure.specs.Graph.{AreInRange}
-use Rattle.link_core_tests.proofs.graphs.add_near.Given as goal
-
-abbrev pub invariant-loop-step : goal.invariant-loop-step
-invariant-loop-step l = AreInRange l.count l.edges.items

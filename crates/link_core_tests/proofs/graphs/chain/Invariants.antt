@@ -1,5 +1,0 @@
-use Rattle.link_closure.specs.Graph.{AreInRange}
-use Rattle.link_core_tests.proofs.graphs.chain.Given as goal
-
-abbrev pub invariant-loop-from : goal.invariant-loop-from
-invariant-loop-from l = AreInRange l.count l.edges.items

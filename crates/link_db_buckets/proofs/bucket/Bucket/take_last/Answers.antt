@@ -1,0 +1,86 @@
+use Rattle.std.proofs.Common.{◌∙◌, [], refl, sym, ap, subst, Some, length}
+use Rattle.std.proofs.lemmas.Option.{slice_get_read}
+use Rattle.std.specs.Option.{option_map_or, option_and_then}
+use Rattle.link_db_buckets.specs.declared.head.Head.{Head}
+use Rattle.link_db_buckets.specs.Heads.{ids_of, is_labelled, without_last}
+use Rattle.link_db_buckets.specs.Keys.{leads_to}
+use Rattle.link_db_buckets.specs.Walks.{HaveWalks}
+use Rattle.link_db_buckets.proofs.Changes.{place_within, changed_label, reads_change, reads_same, reads_none_label, labels_left, labels_stay, in_use, ids_in_use, overridden_in_use, found_used, keys-set}
+use Rattle.link_db_buckets.proofs.Hashes.{hashes_of-set}
+use Rattle.link_db_buckets.proofs.bucket.Bucket.take_last.Goals as goal
+
+pub index_mut-head-requires : goal.index_mut-head-requires
+index_mut-head-requires g c =
+    let names = g.T.Names.key_at c.args.table.now in
+    rw c.args.self.now.heads.ok.0 (place_within (is_labelled names c.args.label) c.args.self.now.heads.items (Some c.in-Some.place) c.in-Some.place c.in-Some.ensures refl)
+
+pub invariant_of-self : goal.invariant_of-self
+invariant_of-self g c =
+    let names = g.T.Names.key_at c.args.table.now in
+    let heads = c.args.self.now.heads.items in
+    let h = c.index_mut-head.result.now in
+    let y : Head = c.remove_last.new.self in
+    let within = place_within (is_labelled names c.args.label) heads (Some c.in-Some.place) c.in-Some.place c.in-Some.ensures refl in
+    let is = slice_get_read heads (length heads) c.in-Some.place h refl within c.index_mut-head.ensures.value in
+    record { placed = subst (HaveWalks c.args.self.now.places) (sym (hashes_of-set heads c.in-Some.place h y is (ap (λ (x : Head). x.hash) c.remove_last.ensures.rest))) c.args.self.now.placed }
+
+pub returns-in-Some-clause-keyed : goal.returns-in-Some-clause-keyed
+returns-in-Some-clause-keyed g c =
+    let names = g.T.Names.key_at c.args.table.now in
+    let heads = c.args.self.now.heads.items in
+    let h = c.index_mut-head.result.now in
+    let y : Head = c.remove_last.new.self in
+    let within = place_within (is_labelled names c.args.label) heads (Some c.in-Some.place) c.in-Some.place c.in-Some.ensures refl in
+    let is = slice_get_read heads (length heads) c.in-Some.place h refl within c.index_mut-head.ensures.value in
+    keys-set names heads c.in-Some.place h y is (found_used names heads c.args.label c.in-Some.place h c.in-Some.ensures is) (ap (λ (x : Head). x.label) c.remove_last.ensures.rest) (ap (λ (x : Head). x.hash) c.remove_last.ensures.rest) c.requires.keyed
+
+pub returns-in-Some-clause-hashes : goal.returns-in-Some-clause-hashes
+returns-in-Some-clause-hashes g c =
+    let names = g.T.Names.key_at c.args.table.now in
+    let heads = c.args.self.now.heads.items in
+    let h = c.index_mut-head.result.now in
+    let y : Head = c.remove_last.new.self in
+    let within = place_within (is_labelled names c.args.label) heads (Some c.in-Some.place) c.in-Some.place c.in-Some.ensures refl in
+    let is = slice_get_read heads (length heads) c.in-Some.place h refl within c.index_mut-head.ensures.value in
+    hashes_of-set heads c.in-Some.place h y is (ap (λ (x : Head). x.hash) c.remove_last.ensures.rest)
+
+pub returns-in-Some-clause-definitions : goal.returns-in-Some-clause-definitions
+returns-in-Some-clause-definitions g c =
+    let names = g.T.Names.key_at c.args.table.now in
+    let heads = c.args.self.now.heads.items in
+    let h = c.index_mut-head.result.now in
+    let y : Head = c.remove_last.new.self in
+    let within = place_within (is_labelled names c.args.label) heads (Some c.in-Some.place) c.in-Some.place c.in-Some.ensures refl in
+    let is = slice_get_read heads (length heads) c.in-Some.place h refl within c.index_mut-head.ensures.value in
+    let changes = changed_label names heads c.args.label c.args.hash c.in-Some.place h y c.requires.keyed c.requires.hashed c.in-Some.ensures is (ap (λ (x : Head). x.label) c.remove_last.ensures.rest) in
+    reads_change names heads _ (leads_to names c.args.label) (Some h) (in_use y) (λ o. option_map_or ids_of o []) (without_last 1) changes (ids_in_use y ∙ c.remove_last.ensures.ids)
+
+pub returns-in-Some-clause-overridden : goal.returns-in-Some-clause-overridden
+returns-in-Some-clause-overridden g c =
+    let names = g.T.Names.key_at c.args.table.now in
+    let heads = c.args.self.now.heads.items in
+    let h = c.index_mut-head.result.now in
+    let y : Head = c.remove_last.new.self in
+    let within = place_within (is_labelled names c.args.label) heads (Some c.in-Some.place) c.in-Some.place c.in-Some.ensures refl in
+    let is = slice_get_read heads (length heads) c.in-Some.place h refl within c.index_mut-head.ensures.value in
+    let changes = changed_label names heads c.args.label c.args.hash c.in-Some.place h y c.requires.keyed c.requires.hashed c.in-Some.ensures is (ap (λ (x : Head). x.label) c.remove_last.ensures.rest) in
+    reads_same names heads _ (leads_to names c.args.label) (Some h) (in_use y) (option_and_then (λ x. x.overridden)) changes (overridden_in_use y ∙ (ap (λ (x : Head). x.overridden) c.remove_last.ensures.rest))
+
+pub returns-in-Some-clause-labels : goal.returns-in-Some-clause-labels
+returns-in-Some-clause-labels g c =
+    let names = g.T.Names.key_at c.args.table.now in
+    let heads = c.args.self.now.heads.items in
+    let h = c.index_mut-head.result.now in
+    let y : Head = c.remove_last.new.self in
+    let within = place_within (is_labelled names c.args.label) heads (Some c.in-Some.place) c.in-Some.place c.in-Some.ensures refl in
+    let is = slice_get_read heads (length heads) c.in-Some.place h refl within c.index_mut-head.ensures.value in
+    let changes = changed_label names heads c.args.label c.args.hash c.in-Some.place h y c.requires.keyed c.requires.hashed c.in-Some.ensures is (ap (λ (x : Head). x.label) c.remove_last.ensures.rest) in
+    labels_left names heads _ (leads_to names c.args.label) h y changes (ap (λ (x : Head). x.label) c.remove_last.ensures.rest)
+
+pub returns-in_default-clause-definitions : goal.returns-in_default-clause-definitions
+returns-in_default-clause-definitions g c =
+    let names = g.T.Names.key_at c.args.table.now in
+    reads_none_label names c.args.self.now.heads.items c.args.label c.args.hash c.place_of_label.result (λ o. option_map_or ids_of o []) (without_last 1) c.requires.hashed c.place_of_label.ensures c.in_default.not-Some refl
+
+pub returns-in_default-clause-labels : goal.returns-in_default-clause-labels
+returns-in_default-clause-labels g c = labels_stay (g.T.Names.key_at c.args.table.now) c.args.self.now.heads.items

@@ -1,5 +1,0 @@
-use Rattle.link_db_cases.specs.Staged.{IsAtStage}
-use Rattle.link_db_cases.proofs.cases.do_lines.Given as goal
-
-abbrev pub invariant-loop-words : goal.invariant-loop-words
-invariant-loop-words g l = IsAtStage l.link

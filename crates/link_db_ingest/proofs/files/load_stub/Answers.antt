@@ -1,0 +1,25 @@
+use Rattle.std.proofs.Common.{◌++◌, ◌∷◌, [], ℕ, refl, sym, ap, ◌∙◌, arith}
+use Rattle.link_input.specs.declared.world.StubSymbol.{StubSymbol}
+use Rattle.link_input.specs.Symbols.{in_stub, stub_strength, symbol_of}
+use Rattle.link_rules.specs.Opening.{opening_flags}
+use Rattle.link_db_ingest.specs.Files.{numbers_of}
+use Rattle.link_db_ingest.proofs.Steps.{next_definitions, next_flags, one_more, rest_is}
+use Rattle.link_db_ingest.proofs.files.load_stub.Goals as goal
+
+pub loop-place-preserved : goal.loop-place-preserved
+loop-place-preserved c =
+    let x = c.symbol-item.result in
+    let symbol = λ (s : StubSymbol). symbol_of s.name (in_stub (stub_strength s)) in
+    let items = c.as_slice-symbol-items.result.now in
+    let i = c.loop-place.place in
+    let before = c.loop-place.read in
+    let rest = rest_is items i x c.loop-place-test.true c.symbol-item.is in
+    record {
+      definitions = next_definitions symbol items i x rest before.definitions.items _ _ c.args.stub.now.symbol_id_range.start c.offset_to_id-id.result c.offset_to_id-id.ensures.value
+          (c.in_ok-add_symbol.ensures.definitions (symbol x) (sym c.as_slice.ensures) refl (c.listing_of_stub_symbol-listing.ensures.plain x) (c.listing_of_stub_symbol-listing.ensures.versioned x))
+          c.loop-place.invariant.definitions;
+      flags = λ w. next_flags symbol items i x rest (opening_flags w) (numbers_of before.flags.items) _ _
+          (c.in_ok-add_symbol.ensures.flags ∙ ap (λ (n : ℕ). numbers_of before.flags.items ++ n ∷ []) (c.flags_of_stub_symbol-flags.ensures w (stub_strength x)))
+          (c.loop-place.invariant.flags w);
+      count = omega (arith, one_more before.flags.items _ _ c.in_ok-add_symbol.ensures.flags, c.loop-place.invariant.count);
+    }

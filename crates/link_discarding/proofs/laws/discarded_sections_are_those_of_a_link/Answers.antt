@@ -1,5 +1,0 @@
-use Rattle.link_discarding.proofs.Same.{same-sections, same-strengths}
-use Rattle.link_discarding.proofs.laws.discarded_sections_are_those_of_a_link.Goals as goal
-
-pub returns : goal.returns
-returns c = record { sections = same-sections; strengths = same-strengths }

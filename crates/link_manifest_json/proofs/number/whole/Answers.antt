@@ -1,0 +1,24 @@
+use Rattle.std.proofs.Common.{◌≡◌, drop, get_or, true, false, ◌==◌, sym, ap, ◌∙◌}
+use Rattle.fast_float.specs.Text.{scan}
+use Rattle.serde_json.specs.Find.{as_u64}
+use Rattle.serde_json.specs.Read.{number_of, number_from}
+use Rattle.link_manifest_json.specs.Tree.{number_or}
+use Rattle.link_manifest_json.proofs.Numbers.{none-below}
+use Rattle.link_manifest_json.proofs.number.whole.Goals as goal
+
+pub returns-then-has_minus : goal.returns-then-has_minus
+unfolding number_of
+returns-then-has_minus c =
+    let s = c.as_bytes-bytes.result.now in
+    let signed : (get_or s 0 0 == 45) ≡ true = sym c.if-has_minus.ensures.value in
+    let read : number_from true (scan (drop 1 s)) ≡ number_of s = rw signed in
+    sym (none-below (scan (drop 1 s))) ∙ ap (λ n. as_u64 (number_or n)) read ∙ ap (λ t. as_u64 (number_or (number_of t))) c.as_bytes-bytes.ensures.value
+
+pub returns : goal.returns
+unfolding number_of
+returns c =
+    let s = c.as_bytes-bytes.result.now in
+    let unsigned : (get_or s 0 0 == 45) ≡ false = sym c.if-has_minus.ensures.value in
+    let read : number_from false (scan s) ≡ number_of s = rw unsigned in
+    c.whole_unsigned.ensures ∙ ap (λ p. as_u64 (number_or (number_from false p))) c.scan.ensures.parts ∙ ap (λ n. as_u64 (number_or n)) read
+    ∙ ap (λ t. as_u64 (number_or (number_of t))) c.as_bytes-bytes.ensures.value

@@ -1,7 +1,0 @@
-use Rattle.std.proofs.Common.{◌≡◌, take}
-use Rattle.link_buckets.specs.Runs.{joined}
-use Rattle.link_mapping.specs.Parts.{definitions_in}
-use Rattle.link_mapping.proofs.parts.lists_of.Given as goal
-
-abbrev pub invariant-loop-part : goal.invariant-loop-part
-invariant-loop-part l = joined l.lists.items ≡ definitions_in (take l.part-index l.parts)

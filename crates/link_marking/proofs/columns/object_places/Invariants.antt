@@ -1,9 +1,0 @@
-use Rattle.std.proofs.Common.{◌≡◌, ◌++◌, map}
-use Rattle.link_files.specs.GroupFiles.{symbols_in}
-use Rattle.link_input.specs.Symbols.{Symbol, object_in}
-use Rattle.link_marking.proofs.columns.object_places.Given as goal
-
-abbrev pub invariant-loop-symbol : goal.invariant-loop-symbol
-invariant-loop-symbol g l =
-    let says = λ (x : Symbol). object_in x.origin in
-    l.column.items ++ map says l.symbol-iterator.left ≡ map says (symbols_in l.files.groups)

@@ -1,0 +1,182 @@
+//! What is left of each symbol once it is known which objects are loaded.
+
+ghost use Rattle.std.specs.Prelude.{◌≡◌, length};
+
+use link_flags::{SymbolPrioritySelector, SymbolStrength};
+use link_ids::SymbolId;
+
+/// What is known of symbols by their ids once it is known which objects are loaded, with the settings that say which counts.
+#[derive(Clone, Copy)]
+pub struct Survivors<'a> {
+    /// How strongly each symbol binds now.
+    pub strengths: &'a [SymbolStrength],
+    /// Whether a shared file gives it.
+    pub dynamic: &'a [bool],
+    /// Whether a loaded regular object holds it.
+    pub held: &'a [bool],
+    /// Weak definitions come before tentative ones.
+    pub weak_overrides_common: bool,
+    /// Several strong definitions of a name are allowed.
+    pub allow_multiple: bool,
+    ghost dynamic_length: { length dynamic.now ≡ length strengths.now },
+    ghost held_length: { length held.now ≡ length strengths.now },
+}
+
+impl<'a> Survivors<'a> {
+    ghost use Rattle.std.specs.Prelude.{◌≡◌, ◌<◌, ◌&&◌, ◌==◌, All, IfSome, find, length, not};
+    ghost use Rattle.link_flags.specs.Pick.{is_strong, pick};
+    ghost use Rattle.link_flags.specs.Selector.{after};
+    ghost use Rattle.link_rules.specs.Places.{first_of};
+    ghost use Rattle.link_rules.specs.Rivals.{choice, clash, is_held, is_surviving, static_candidates};
+    ghost use Rattle.link_rules.specs.Selection.{Selection, is_dynamic, surviving_strength};
+    ghost use Rattle.link_resolve_rivals.specs.Survivors.{Tells, strong_entries};
+
+    /// A shared file gives the symbol.
+    pub(crate) fn is_dynamic(&self, id: SymbolId) -> bool
+        requires { id < length self.now.strengths.now }
+        ensures { (l : Selection) → Tells self.now l → result ≡ is_dynamic l id }
+    {
+        self.dynamic[id.as_usize()]
+    }
+
+    /// How strongly the symbol binds now.
+    fn strength(&self, id: SymbolId) -> SymbolStrength
+        requires { id < length self.now.strengths.now }
+        ensures { (l : Selection) → Tells self.now l → result ≡ surviving_strength l id }
+    {
+        self.strengths[id.as_usize()]
+    }
+
+    /// A loaded regular object holds the symbol.
+    fn is_held(&self, id: SymbolId) -> bool
+        requires { id < length self.now.strengths.now }
+        ensures { (l : Selection) → Tells self.now l → result ≡ is_held l id }
+    {
+        self.held[id.as_usize()]
+    }
+
+    /// Something is left of the symbol.
+    fn is_surviving(&self, id: SymbolId) -> bool
+        requires { id < length self.now.strengths.now }
+        ensures { (l : Selection) → Tells self.now l → result ≡ is_surviving l id }
+    {
+        match self.strength(id) {
+            SymbolStrength::Undefined => false,
+            SymbolStrength::Weak
+            | SymbolStrength::GnuUnique
+            | SymbolStrength::Strong
+            | SymbolStrength::Common(_) => true,
+        }
+    }
+
+    /// The symbol is strong, and no shared file gives it.
+    fn is_strong(&self, id: SymbolId) -> bool
+        requires { id < length self.now.strengths.now }
+        ensures { (l : Selection) → Tells self.now l → result ≡ (not (is_dynamic l id) && is_strong (surviving_strength l id)) }
+    {
+        !self.is_dynamic(id) && matches!(self.strength(id), SymbolStrength::Strong)
+    }
+
+    /// The pick of the entries that no shared file gives.
+    fn pick(&self, entries: &[SymbolId]) -> Option<SymbolId>
+        requires { All (λ e. e < length self.now.strengths.now) entries.now }
+        ensures value { (l : Selection) → Tells self.now l
+            → result ≡ pick l.stage.rules.weak_overrides_common (static_candidates l entries.now) }
+        ensures inside { IfSome result (λ id. id < length self.now.strengths.now) }
+    {
+        let mut selector = SymbolPrioritySelector::new();
+        for entry in entries {
+            if !self.is_dynamic(*entry) {
+                selector.consider(*entry, self.strength(*entry));
+            }
+        }
+        selector.best(self.weak_overrides_common)
+    }
+
+    /// The first entry of which something is left.
+    fn first_surviving(&self, entries: &[SymbolId]) -> Option<SymbolId>
+        requires { All (λ e. e < length self.now.strengths.now) entries.now }
+        ensures value { (l : Selection) → Tells self.now l → result ≡ find (is_surviving l) entries.now }
+        ensures inside { IfSome result (λ id. id < length self.now.strengths.now) }
+    {
+        for entry in entries {
+            if self.is_surviving(*entry) {
+                return Some(*entry);
+            }
+        }
+        None
+    }
+
+    /// The first entry that a loaded regular object holds.
+    fn first_held(&self, entries: &[SymbolId]) -> Option<SymbolId>
+        requires { All (λ e. e < length self.now.strengths.now) entries.now }
+        ensures value { (l : Selection) → Tells self.now l → result ≡ find (is_held l) entries.now }
+        ensures inside { IfSome result (λ id. id < length self.now.strengths.now) }
+    {
+        for entry in entries {
+            if self.is_held(*entry) {
+                return Some(*entry);
+            }
+        }
+        None
+    }
+
+    /// The entry of a list that counts: the pick of those that no shared file gives, else the first of which something is left, else the
+    /// first that a loaded regular object holds, else the head.
+    pub fn choice(&self, entries: &[SymbolId], head: SymbolId) -> SymbolId
+        requires entries { All (λ e. e < length self.now.strengths.now) entries.now }
+        requires head { head < length self.now.strengths.now }
+        ensures value { (l : Selection) → Tells self.now l → result ≡ choice l entries.now head }
+        ensures inside { result < length self.now.strengths.now }
+    {
+        if let Some(id) = self.pick(entries) {
+            return id;
+        }
+        if let Some(id) = self.first_surviving(entries) {
+            return id;
+        }
+        self.first_held(entries).unwrap_or(head)
+    }
+
+    /// The first strong entry.
+    fn first_strong(&self, entries: &[SymbolId]) -> Option<SymbolId>
+        requires { All (λ e. e < length self.now.strengths.now) entries.now }
+        ensures value { (l : Selection) → Tells self.now l → result ≡ first_of (strong_entries l entries.now) }
+        ensures inside { IfSome result (λ id. id < length self.now.strengths.now) }
+    {
+        for entry in entries {
+            if self.is_strong(*entry) {
+                return Some(*entry);
+            }
+        }
+        None
+    }
+
+    /// The first strong entry that is not this one.
+    fn strong_beside(&self, first: SymbolId, entries: &[SymbolId]) -> Option<SymbolId>
+        requires { All (λ e. e < length self.now.strengths.now) entries.now }
+        ensures value { (l : Selection) → Tells self.now l → result ≡ find (λ s. not (s == first)) (strong_entries l entries.now) }
+        ensures inside { IfSome result (λ id. id < length self.now.strengths.now) }
+    {
+        for entry in entries {
+            if self.is_strong(*entry) && *entry != first {
+                return Some(*entry);
+            }
+        }
+        None
+    }
+
+    /// Two different strong entries of a list, where that is not allowed.
+    pub fn clash(&self, entries: &[SymbolId]) -> Option<(SymbolId, SymbolId)>
+        requires { All (λ e. e < length self.now.strengths.now) entries.now }
+        ensures value { (l : Selection) → Tells self.now l → result ≡ clash l entries.now }
+        ensures inside { IfSome result (λ pair. (pair.0 < length self.now.strengths.now) × (pair.1 < length self.now.strengths.now)) }
+    {
+        if self.allow_multiple {
+            return None;
+        }
+        let first = self.first_strong(entries)?;
+        let second = self.strong_beside(first, entries)?;
+        Some((first, second))
+    }
+}

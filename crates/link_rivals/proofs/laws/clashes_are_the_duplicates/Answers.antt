@@ -1,5 +1,0 @@
-use Rattle.link_rivals.proofs.Tables.{plain-lines, versioned-lines}
-use Rattle.link_rivals.proofs.laws.clashes_are_the_duplicates.Goals as goal
-
-pub returns : goal.returns
-returns c = record { plain = plain-lines; versioned = versioned-lines }

@@ -1,5 +1,0 @@
-use Rattle.link_rivals.proofs.Tables.{plain-settled, versioned-settled}
-use Rattle.link_rivals.proofs.laws.settling_gives_the_tables.Goals as goal
-
-pub returns : goal.returns
-returns c = record { plain = plain-settled; versioned = versioned-settled }

@@ -1,9 +1,0 @@
-use Rattle.std.proofs.Common.{◌<◌, arith, length}
-use Rattle.std.proofs.lemmas.Bool.Decides.{nat_tests}
-use Rattle.link_rivals.proofs.Heads.{later-inside}
-use Rattle.link_rivals.proofs.settling.settle_head.Goals as goal
-
-pub settle_list-requires-clause-later : goal.settle_list-requires-clause-later
-settle_list-requires-clause-later g c =
-    let some : 0 < length c.later-later.result.now = grind (arith, nat_tests) in
-    later-inside (g.L.RivalLists.listed c.args.lists.now) (length c.args.table.now) c.args.head c.later-later.result.now c.requires.lists c.later-later.ensures some

@@ -1,5 +1,0 @@
-use Rattle.link_stage.proofs.Mappings.{comes-to}
-use Rattle.link_stage.proofs.a_database_comes_to_its_stage.Goals as goal
-
-pub returns : goal.returns
-returns g c = comes-to

@@ -1,5 +1,0 @@
-use Rattle.link_rivals.proofs.TwoLists.{two-lists}
-use Rattle.link_table_tests.proofs.rivals.narrow_two_lists.Goals as goal
-
-pub narrow-requires-clause-lists : goal.narrow-requires-clause-lists
-narrow-requires-clause-lists c = two-lists

@@ -1,6 +1,0 @@
-use Rattle.std.proofs.Common.{◌≡◌, length}
-use Rattle.link_flags.specs.FlagWords.{words_of}
-use Rattle.link_table_tests.proofs.rivals.no_flags.Given as goal
-
-abbrev pub invariant-loop : goal.invariant-loop
-invariant-loop l = length (words_of l.flags) ≡ l.counter

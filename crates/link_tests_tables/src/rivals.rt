@@ -1,0 +1,235 @@
+//! That the definition that counts is the one that a plain model names, for all lists of two and three; that lists are settled and narrowed.
+
+ghost use Rattle.std.specs.Prelude.{◌≡◌, ◌<◌, ◌≤◌, All, IfOk, length};
+ghost use Rattle.link_flags.specs.FlagWords.{words_of};
+
+use bitflags::Flags;
+use link_flags::SymbolStrength::{Common, GnuUnique, Strong, Undefined, Weak};
+use link_flags::{PerSymbolFlags, SymbolStrength, ValueFlags, Visibility};
+use link_ids::{SymbolId, SymbolIdRange};
+use link_resolve_rivals::{RivalLists, Survivors, narrow, settle};
+use std::alloc::{AllocError, Global};
+use std::process::Abort;
+use std::test::Fail;
+
+/// How strongly a rival binds, whether a shared file gives it, and whether a loaded regular object holds it.
+type Rival = (SymbolStrength, bool, bool);
+
+const RIVALS: &[Rival] = &[
+    (Undefined, false, false),
+    (Undefined, false, true),
+    (Undefined, true, false),
+    (Undefined, true, true),
+    (Weak, false, false),
+    (Weak, false, true),
+    (Weak, true, false),
+    (Weak, true, true),
+    (GnuUnique, false, false),
+    (GnuUnique, false, true),
+    (GnuUnique, true, false),
+    (GnuUnique, true, true),
+    (Common(4), false, false),
+    (Common(4), false, true),
+    (Common(4), true, false),
+    (Common(4), true, true),
+    (Common(8), false, false),
+    (Common(8), false, true),
+    (Common(8), true, false),
+    (Common(8), true, true),
+    (Strong, false, false),
+    (Strong, false, true),
+    (Strong, true, false),
+    (Strong, true, true),
+];
+
+/// How much a rival counts among those that no shared file gives; 0 where it is none of them.
+fn weight(rival: Rival, weak_overrides_common: bool) -> u64 {
+    let (strength, dynamic, _) = rival;
+    match strength {
+        _ if dynamic => 0,
+        Undefined => 0,
+        Weak | GnuUnique if weak_overrides_common => 100,
+        Weak | GnuUnique => 1,
+        Common(size) => size.saturating_add(10),
+        Strong => 1000,
+    }
+}
+
+/// The place of the first rival that counts most, else of the first with a strength, else of the first that is held, else of the head.
+fn expected_choice(rivals: &[Rival], weak_overrides_common: bool) -> usize {
+    let mut best = 0;
+    let mut most = 0;
+    for (place, rival) in rivals.iter().enumerate() {
+        let weight = weight(*rival, weak_overrides_common);
+        if weight > most {
+            best = place;
+            most = weight;
+        }
+    }
+    if most > 0 {
+        return best;
+    }
+    if let Some(place) = rivals.iter().position(|rival| rival.0 != Undefined) {
+        return place;
+    }
+    rivals.iter().position(|rival| rival.2).unwrap_or(0)
+}
+
+/// The places of the first two strong rivals that no shared file gives.
+fn expected_clash(rivals: &[Rival]) -> Option<(usize, usize)> {
+    let mut first = None;
+    for (place, rival) in rivals.iter().enumerate() {
+        if rival.0 == Strong && !rival.1 {
+            match first {
+                None => first = Some(place),
+                Some(before) => return Some((before, place)),
+            }
+        }
+    }
+    None
+}
+
+/// The rivals at these places, three or the first two, are settled as the model says.
+fn agrees(rt: &impl Abort, rivals: [Rival; 3], count: usize, weak_overrides_common: bool)
+    requires { count ≤ 3 }
+{
+    let [a, b, c] = rivals;
+    let ids = [
+        SymbolId::from_usize(0),
+        SymbolId::from_usize(1),
+        SymbolId::from_usize(2),
+    ];
+    let survivors = Survivors {
+        strengths: &[a.0, b.0, c.0],
+        dynamic: &[a.1, b.1, c.1],
+        held: &[a.2, b.2, c.2],
+        weak_overrides_common,
+        allow_multiple: false,
+    };
+    let choice = survivors.choice(&ids[..count], ids[0]).as_usize();
+    let clash = survivors
+        .clash(&ids[..count])
+        .map(|pair| (pair.0.as_usize(), pair.1.as_usize()));
+    assert!(rt;
+        choice == expected_choice(&rivals[..count], weak_overrides_common)
+            && clash == expected_clash(&rivals[..count]),
+        "at {rivals:?}"
+    );
+}
+
+#[test]
+fn the_definition_that_counts_is_that_of_the_model(rt: HostRuntime) {
+    for &a in RIVALS {
+        for &b in RIVALS {
+            for weak_overrides_common in [false, true] {
+                agrees(&rt, [a, b, a], 2, weak_overrides_common);
+                for &c in RIVALS {
+                    agrees(&rt, [a, b, c], 3, weak_overrides_common);
+                }
+            }
+        }
+    }
+}
+
+/// Two lists of six symbols: 0, 2 and 3; 1 and 4. The last symbol stands in none.
+struct TwoLists;
+
+impl RivalLists for TwoLists {
+    ghost use Rattle.std.specs.Prelude.{[], ◌∷◌, slice_get};
+    ghost use Rattle.std.specs.Option.{option_map_or};
+
+    ghost listed = { λ _ s. option_map_or (λ own. own)
+        (slice_get ((0 ∷ 2 ∷ 3 ∷ []) ∷ (1 ∷ 4 ∷ []) ∷ (0 ∷ 2 ∷ 3 ∷ []) ∷ (0 ∷ 2 ∷ 3 ∷ []) ∷ (1 ∷ 4 ∷ []) ∷ []) s) [] };
+
+    ghost count = { λ _. 6 };
+
+    fn later(&self, id: SymbolId) -> &[u32] {
+        match id.as_usize() {
+            0 => &[2, 3],
+            1 => &[4],
+            _ => &[],
+        }
+    }
+}
+
+/// Each symbol points to itself, but for the fourth, which points to the last.
+fn table() -> [SymbolId; 6]
+    ensures len { length result ≡ 6 }
+    ensures inside { All (λ t. t < 6) result }
+{
+    [
+        SymbolId::from_usize(0),
+        SymbolId::from_usize(1),
+        SymbolId::from_usize(2),
+        SymbolId::from_usize(5),
+        SymbolId::from_usize(4),
+        SymbolId::from_usize(5),
+    ]
+}
+
+#[test]
+fn lists_are_settled(rt: HostRuntime) -> Result<(), Fail> {
+    let mut table = table();
+    let survivors = Survivors {
+        strengths: &[Weak, Strong, Undefined, Weak, Strong, Strong],
+        dynamic: &[true, false, false, false, false, false],
+        held: &[true, true, true, true, true, true],
+        weak_overrides_common: false,
+        allow_multiple: false,
+    };
+    let clashes = settle(rt.alloc(), &survivors, &TwoLists, &mut table)?;
+    assert!(rt;
+        table[0].as_usize() == 5
+            && table[1].as_usize() == 1
+            && table[2].as_usize() == 5
+            && table[3].as_usize() == 5
+            && table[4].as_usize() == 4
+            && clashes.len() == 1,
+        "at {table:?} with {clashes:?}"
+    );
+    Ok(())
+}
+
+/// No flags for each of the six symbols.
+fn no_flags(alloc: Global) -> Result<PerSymbolFlags, AllocError>
+    ensures { IfOk result (λ flags. length (words_of flags) ≡ 6) }
+{
+    let mut flags = PerSymbolFlags::new(alloc);
+    for _ in 0..6usize {
+        flags.push(ValueFlags::empty())?;
+    }
+    Ok(flags)
+}
+
+/// Narrows the two lists.
+fn narrow_two_lists(flags: &mut PerSymbolFlags)
+    requires { length (words_of flags.old) ≡ 6 }
+    ensures { length (words_of flags.new) ≡ 6 }
+{
+    let visibilities = [
+        Visibility::Default,
+        Visibility::Protected,
+        Visibility::Hidden,
+        Visibility::Default,
+        Visibility::Default,
+        Visibility::Hidden,
+    ];
+    let dynamic = [false, false, true, false, false, false];
+    narrow(&TwoLists, &visibilities, &dynamic, flags);
+}
+
+#[test]
+fn lists_are_narrowed(rt: HostRuntime) -> Result<(), Fail> {
+    let mut flags = no_flags(rt.alloc())?;
+    narrow_two_lists(&mut flags);
+    let hidden = ValueFlags::NON_INTERPOSABLE
+        .union(ValueFlags::DOWNGRADE_TO_LOCAL)
+        .raw();
+    let protected = ValueFlags::NON_INTERPOSABLE.raw();
+    let none = ValueFlags::empty().raw();
+    assert_eq!(rt;
+        flags.raw_range(SymbolIdRange::prelude(6)),
+        [hidden, protected, none, hidden, protected, none].as_slice()
+    );
+    Ok(())
+}

@@ -1,5 +1,0 @@
-use Rattle.link_undefined.proofs.Passing.{signed-all}
-use Rattle.link_undefined.proofs.laws.signatures_are_left.Goals as goal
-
-pub returns : goal.returns
-returns c = signed-all
