@@ -10,8 +10,6 @@ mod gate;
 mod law;
 mod plan;
 mod state;
-#[cfg(test)]
-mod tests;
 mod view;
 mod words;
 

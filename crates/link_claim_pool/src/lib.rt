@@ -8,8 +8,6 @@ mod readable;
 mod reading;
 mod roots;
 mod sweep;
-#[cfg(test)]
-mod tests;
 mod worker;
 
 pub use pool::{AllRead, read_all};

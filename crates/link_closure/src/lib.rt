@@ -4,8 +4,6 @@
 //! which flags that leaves.
 #![tactic(auto)]
 
-#[cfg(test)]
-mod tests;
 mod workload;
 
 ghost use Rattle.std.specs.Prelude.{◌≡◌, ◌↔◌, ◌⊎◌, [], ◌+◌, ◌<◌, ◌≤◌, ℕ, Bool, List, not, length, count_by, Contains, All, IfOk, OnOk, IsTrue};

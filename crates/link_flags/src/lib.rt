@@ -5,8 +5,6 @@
 mod per_symbol_flags;
 mod selector;
 mod strength;
-#[cfg(test)]
-mod tests;
 mod value_flags;
 mod visibility;
 

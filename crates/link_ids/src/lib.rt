@@ -7,8 +7,6 @@ mod section_ids;
 mod shard_key;
 mod symbol_id;
 mod symbol_id_range;
-#[cfg(test)]
-mod tests;
 
 pub use file_id::{FileId, PRELUDE_FILE_ID};
 pub use indexes::{InputSectionIndex, SectionIndex, SymbolIndex};

@@ -6,8 +6,6 @@ mod manifest;
 mod names;
 mod objects;
 mod tables;
-#[cfg(test)]
-mod tests;
 
 pub use laws::{a_made_up_link_is_not_refused, bulk_tables_pass};
 pub use manifest::{MAX_MEMBERS, bulk_manifest};

@@ -6,8 +6,6 @@ mod lines;
 mod refusal;
 mod report;
 mod summary;
-#[cfg(test)]
-mod tests;
 
 pub use refusal::refusal_text;
 pub use report::report_text;

@@ -6,8 +6,6 @@ mod resolved_file;
 mod resolved_inputs;
 mod resolved_objects;
 mod resolving;
-#[cfg(test)]
-mod tests;
 mod undefined_symbol;
 
 pub use resolved_file::{ResolvedFile, ResolvedGroup};

@@ -1,5 +1,9 @@
-//! Tests of `link_manifest`, beside which none stand: a crate with tests is proved twice.
+//! Tests of `link_manifest`, `link_manifest_bulk` and `link_report`, beside which none stand: a crate with tests is proved twice.
 #![tactic(auto)]
 
 #[cfg(test)]
+mod bulk;
+#[cfg(test)]
 mod manifest;
+#[cfg(test)]
+mod report;

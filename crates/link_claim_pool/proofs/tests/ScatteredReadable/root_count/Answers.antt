@@ -1,6 +1,0 @@
-use Rattle.std.proofs.Common.{sym}
-use Rattle.std.proofs.lemmas.List.FromFn.{length-range_with_len}
-use Rattle.link_claim_pool.proofs.tests.ScatteredReadable.root_count.Goals as goal
-
-pub returns : goal.returns
-returns c = sym (length-range_with_len 0 c.args.self.now.roots)

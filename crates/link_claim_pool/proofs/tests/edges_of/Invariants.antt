@@ -1,5 +1,0 @@
-use Rattle.link_closure.specs.Graph.{AreInRange}
-use Rattle.link_claim_pool.proofs.tests.edges_of.Given as goal
-
-abbrev pub invariant-loop-item : goal.invariant-loop-item
-invariant-loop-item l = AreInRange l.plan.files l.edges.items
