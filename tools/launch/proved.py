@@ -1,8 +1,9 @@
 """Proves every crate that a program stands on, and then the program, and builds it.
 
 A crate is begun as soon as those below it are done. Of the crates that could be begun, the one comes first that has the longest chain of
-crates above it, counted in lines. While others can run each has one job; a crate that is alone has as many as `rt` chooses. What an
-earlier call proved stands in the crates' folders out/, where `rt` keeps it, so an interrupted call is gone on with."""
+crates above it, counted in lines. Each has one job where others can take the other processors, and else its share of them: the chain of
+crates is what the whole waits for. What an earlier call proved stands in the crates' folders out/, where `rt` keeps it, so an
+interrupted call is gone on with."""
 
 import concurrent.futures
 import contextlib
@@ -14,6 +15,9 @@ import time
 
 from .kit import Kit, NoKit
 from .progress import minutes, tell
+
+
+MOST_JOBS = 4
 
 
 class NotProved(Exception):
@@ -66,11 +70,11 @@ class SideBySide:
         """Whether there is memory for one more beside those that run."""
         return not running or sum(self.need(self.crates[it]) for it in [*running, name]) <= self.free
 
-    def prove(self, name, is_alone):
-        """Proves a library, and builds it for the crates above. Answers whether it is proved, and what was said."""
+    def prove(self, name, jobs):
+        """Proves a library by so many jobs, and builds it for the crates above. Answers whether it is proved, and what was said."""
         crate = self.crates[name]
         with tempfile.TemporaryFile("w+", errors="replace") as crate.out:
-            status = crate.build_rlib([] if is_alone else ["--jobs", "1"], False)
+            status = crate.build_rlib(["--jobs", str(jobs)], False)
             crate.out.seek(0)
             return status == 0, crate.out.read()
 
@@ -90,7 +94,7 @@ class OneByOne:
         """Whether there is memory for one more."""
         return True
 
-    def prove(self, name, _is_alone):
+    def prove(self, name, _jobs):
         """As `SideBySide.prove`."""
         words = {"cwd": f"{self.top}/crates/{name}", "stdin": subprocess.DEVNULL, "stdout": subprocess.PIPE, "stderr": subprocess.STDOUT}
         done = subprocess.run([self.kit.command, "lib"], errors="replace", **words)
@@ -109,16 +113,22 @@ def prover_of(kit, top, name):
         return OneByOne(kit, top)
 
 
+def share(processors, crates):
+    """How many jobs each of so many crates has. More than four gain a crate nothing."""
+    return max(min(processors // max(crates, 1), MOST_JOBS), 1)
+
+
 def prove_libraries(prover, schedule, report):
     """Proves all crates of a schedule. `report` is called with each that is proved, and the seconds that it took. Where one isn't,
     those that run beside it are left to end with this program."""
     pool, runs = concurrent.futures.ThreadPoolExecutor(prover.lanes), {}
     while schedule.waiting or runs:
-        for name in schedule.ready():
+        ready = schedule.ready()
+        jobs = share(prover.lanes, len(runs) + len(ready))
+        for name in ready:
             if len(runs) < prover.lanes and prover.fits(schedule.running, name):
-                is_alone = not runs and schedule.ready() == [name]
                 schedule.begin(name)
-                runs[pool.submit(prover.prove, name, is_alone)] = name, time.monotonic()
+                runs[pool.submit(prover.prove, name, jobs)] = name, time.monotonic()
         ended, _ = concurrent.futures.wait(runs, return_when=concurrent.futures.FIRST_COMPLETED)
         for run in ended:
             name, began = runs.pop(run)

@@ -22,7 +22,7 @@ pub record IsSettled {P : Type 0} (db : Database P) (known : Known) (l : Selecti
   pub marks : l.marks ≡ known.marks
   pub targets : l.targets ≡ known.targets
 
--- symbols of these names more, which the linker made; files, options and rules are as before
+-- symbols of these names more, which the linker made; the objects and the symbols of files, options and rules are as they stood
 pub record HasMade {P : Type 0} (names : List Bytes) (old new : Database P) : Type 0 where
   pub symbols : symbols_in new.mapping.files.groups ≡ symbols_in old.mapping.files.groups
   pub objects : objects_in new.mapping.files.groups ≡ objects_in old.mapping.files.groups
