@@ -12,13 +12,15 @@ from . import checked, proved
 from .crates import Crates
 from .kit import Kit, NoKit
 from .progress import minutes, seconds, tell
-from .store import CHECKED, PROVED, Store, sum_of
+from .store import CHECKED, PROVED, Store, sources_of
 
 TOP = pathlib.Path(__file__).resolve().parents[2]
 NAME = "link_program"
 VERSION = "wolzhyke 0.1.0, with the behaviour of libwild 0.11.0"
-MOST_WORKERS = 256
-# The statuses that are not the program's: no manifest can be made of the files, the program can't be built, and an interrupt.
+MOST_WORKERS, MOST_MEMBERS = 256, 100000
+# Two statuses of the program, and those that are not its: no manifest can be made of the files, the program can't be built, and an
+# interrupt.
+NO_COMMAND, NOT_WRITTEN = 2, 5
 NO_MANIFEST, NOT_BUILT, INTERRUPTED = 7, 125, 130
 
 HELP = """wolzhyke: which files a link loads, and which definition each symbol means
@@ -78,10 +80,10 @@ def build_checked():
     store = stores()[1]
     with store.building():
         if not store.is_current():
-            began, sources = time.time_ns(), sum_of(store.crates, NAME)
+            sources = sources_of(store.crates, NAME)
             with store.room() as made, seconds("building the program with run-time checks, without its proof"):
                 checked.build(TOP, NAME, made)
-                store.put(made, began, sources)
+                store.put(made, sources)
     return store
 
 
@@ -92,10 +94,10 @@ def build_proved():
         if store.is_current():
             tell(f"wolzhyke: proved already, by {store.read()['kit']}\n")
             return store
-        began, sources = time.time_ns(), sum_of(store.crates, NAME)
+        sources = sources_of(store.crates, NAME)
         with store.room() as made:
             kit = proved.prove(store.crates, NAME, made)
-            store.put(made, began, sources, kit=kit)
+            store.put(made, sources, kit=kit)
     tell(f"wolzhyke: proved, by {kit}, in {minutes(time.monotonic() - start)}\n")
     return store
 
@@ -123,14 +125,21 @@ def with_workers(words):
     return [*words[:at], workers(), *words[at:]]
 
 
+def is_command(words):
+    """Whether the program takes the words, or they make a manifest first. So nothing is built for a word that is mistyped."""
+    if words[:1] == ["bulk"]:
+        return len(words) == 3 and is_count(words[1], MOST_MEMBERS) and is_count(words[2], MOST_WORKERS)
+    return are_files(words) or words[:1] == ["link"] and len(words) == 2 and is_count(words[1], MOST_WORKERS)
+
+
 def are_files(words):
-    """Whether the words make a manifest first. Other words go to the program, which says what is wrong with them."""
-    return words[:1] == ["files"] and len(words) > 2 and words[2] == "--" and is_count(words[1])
+    """Whether the words make a manifest first."""
+    return words[:1] == ["files"] and len(words) > 2 and words[2] == "--" and is_count(words[1], MOST_WORKERS)
 
 
-def is_count(word):
-    """Whether a word is a number of workers, as the program reads it."""
-    return re.fullmatch("[1-9][0-9]{0,2}", word, re.ASCII) is not None and int(word) <= MOST_WORKERS
+def is_count(word, most):
+    """Whether a word is a number from 1 to `most`, as the program reads it."""
+    return re.fullmatch("[1-9][0-9]{0,5}", word, re.ASCII) is not None and int(word) <= most
 
 
 def manifest_of(words):
@@ -145,6 +154,9 @@ def manifest_of(words):
 def run(words):
     """Runs the program in the place of this one."""
     words = with_workers(words)
+    if not is_command(words):
+        tell("wolzhyke: `./wolzhyke --help` says which words there are\n")
+        return say("error: usage\n") or NO_COMMAND
     if are_files(words):
         try:
             manifest = manifest_of(words[3:])
@@ -154,21 +166,34 @@ def run(words):
         if manifest is None:
             return NO_MANIFEST
         os.dup2(manifest.fileno(), 0)
+        # Where standard input was closed, the file is there already, and would be closed with this program.
+        os.set_inheritable(0, True)
         words = ["link", words[1]]
     path = program()
     os.execv(path, [path, *words])
     return NOT_BUILT
 
 
+def say(text):
+    """Writes a text on standard output, and answers the status."""
+    try:
+        if sys.stdout is None:
+            return NOT_WRITTEN
+        print(text, end="", flush=True)
+    except OSError:
+        # What is left in the stream is written at the end of this program, and has to go somewhere.
+        os.dup2(os.open(os.devnull, os.O_WRONLY), 1)
+        return NOT_WRITTEN
+    return 0
+
+
 def main(words):
     """Runs the launch script, and answers its status."""
     if words[:1] in (["--help"], ["-h"], ["help"]):
-        print(HELP, end="")
-        return 0
+        return say(HELP)
     try:
         if words == ["--version"]:
-            print(version(), end="")
-            return 0
+            return say(version())
         if words == ["prove"]:
             build_proved()
             return 0

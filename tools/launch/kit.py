@@ -18,7 +18,7 @@ class Kit:
     def __init__(self):
         command = shutil.which("rt")
         if command is None:
-            raise NoKit("there is no command rt on the path: README.md says where it comes from")
+            raise NoKit("there is no command rt on the path: README.md says under 'Set up' what it is")
         self.command = os.path.realpath(command)
         self.folder = os.path.dirname(os.path.dirname(self.command))
 

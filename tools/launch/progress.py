@@ -10,7 +10,7 @@ SECONDS_BETWEEN = 10
 
 @contextlib.contextmanager
 def seconds(what):
-    """Tells in one line what is done and, every ten seconds, how many have gone by, and ends it with `done` or `failed`."""
+    """Tells in one line what is done and, every ten seconds, how many have gone by, and ends it with how that ended."""
     began, ended = time.monotonic(), threading.Event()
     tell(f"wolzhyke: {what}:")
 
@@ -24,6 +24,9 @@ def seconds(what):
     try:
         yield
         outcome = "done"
+    except KeyboardInterrupt:
+        outcome = "interrupted"
+        raise
     finally:
         ended.set()
         counter.join()
@@ -31,8 +34,10 @@ def seconds(what):
 
 
 def tell(text):
-    """Writes a piece of a line."""
-    print(text, end="", file=sys.stderr, flush=True)
+    """Writes a piece of a line, where standard error takes it."""
+    if sys.stderr is not None:
+        with contextlib.suppress(OSError):
+            print(text, end="", file=sys.stderr, flush=True)
 
 
 def minutes(taken):

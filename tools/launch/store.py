@@ -1,8 +1,8 @@
 """The programs that were built, in the folder build/ at the top: which stand, and whether their sources have changed since.
 
 A program is put there whole: it is made under another name, and what tells of it (`built.json`) is written last. So a build that is
-interrupted leaves nothing that a later call takes for a program. The time of `built.json` is that at which the build began, so a
-source that is edited meanwhile is newer."""
+interrupted leaves nothing that a later call takes for a program. What `built.json` tells of the sources is taken before the build
+begins, so one that is edited meanwhile makes the program old."""
 
 import contextlib
 import fcntl
@@ -11,8 +11,8 @@ import json
 import os
 import pathlib
 import shutil
-import sys
-import time
+
+from .progress import tell
 
 CHECKED, PROVED = "checked", "proved"
 
@@ -40,19 +40,31 @@ class Store:
         return self.read() is not None
 
     def is_current(self):
-        """Whether a program stands that is made of the sources as they are. Files that are newer and hold the same bytes, as git
+        """Whether a program stands that is made of the sources as they are. Files with other dates and the same bytes, as git
         leaves them when a branch comes and goes, change nothing."""
         told = self.read()
         if told is None:
             return False
-        began = time.time_ns()
-        if newest(self.crates.sources(self.name)) < self.told.stat().st_mtime_ns:
+        dates = dates_of(self.crates, self.name)
+        if told.get("dates") == dates:
             return True
         if told.get("sum") != sum_of(self.crates, self.name):
             return False
-        with contextlib.suppress(OSError):
-            os.utime(self.told, ns=(began, began))
+        self.note(told, dates)
         return True
+
+    def note(self, told, dates):
+        """Notes the dates of the sources of which `told` tells, so that the next call needn't read them. Not while another call builds."""
+        with contextlib.suppress(OSError), open(self.folder / "lock", "w", encoding="utf-8") as lock:
+            fcntl.flock(lock, fcntl.LOCK_EX | fcntl.LOCK_NB)
+            if self.read() == told:
+                self.write({**told, "dates": dates})
+
+    def write(self, told):
+        """Writes what is told of the program, whole or not at all."""
+        new = self.folder / "built.json.new"
+        new.write_text(json.dumps(told) + "\n")
+        os.replace(new, self.told)
 
     @contextlib.contextmanager
     def building(self):
@@ -62,7 +74,7 @@ class Store:
             try:
                 fcntl.flock(lock, fcntl.LOCK_EX | fcntl.LOCK_NB)
             except BlockingIOError:
-                print("wolzhyke: waiting for another call that builds the program", file=sys.stderr, flush=True)
+                tell("wolzhyke: waiting for another call that builds the program\n")
                 fcntl.flock(lock, fcntl.LOCK_EX)
             for left in self.folder.glob("new-*"):
                 shutil.rmtree(left)
@@ -78,20 +90,27 @@ class Store:
         finally:
             shutil.rmtree(room, ignore_errors=True)
 
-    def put(self, made, began, sources, **told):
-        """Puts a program in its place. `began` is the time, in nanoseconds, at which the build began, and `sources` the sum of what it was made of."""
+    def put(self, made, sources, **told):
+        """Puts a program in its place. `sources` is what `sources_of` told before the build began."""
         with contextlib.suppress(FileNotFoundError):
             self.told.unlink()
         os.replace(made, self.program)
-        new = self.folder / "built.json.new"
-        new.write_text(json.dumps({"sum": sources, **told}) + "\n")
-        os.utime(new, ns=(began, began))
-        os.replace(new, self.told)
+        self.write({**sources, **told})
 
 
-def newest(paths):
-    """The time of the last change among files and folders, in nanoseconds. That of a folder tells of names that came or went."""
-    return max(os.stat(path).st_mtime_ns for path in paths)
+def sources_of(crates, name):
+    """What is noted of the sources of a crate and of those below it. Dates come first: a file that changes meanwhile has another one."""
+    return {"dates": dates_of(crates, name), "sum": sum_of(crates, name)}
+
+
+def dates_of(crates, name):
+    """A checksum of the names, sizes and dates of these sources, which is had without reading them. Among the dates is that of the
+    last change of any kind, which can't be set: so a file that is put back with an old date has another one."""
+    found = hashlib.sha256()
+    for path in crates.sources(name):
+        held = os.stat(path)
+        found.update(f"{path}\0{held.st_size}\0{held.st_mtime_ns}\0{held.st_ctime_ns}\0".encode(errors="surrogateescape"))
+    return found.hexdigest()
 
 
 def sum_of(crates, name):

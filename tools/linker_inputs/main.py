@@ -18,12 +18,14 @@ tools/manifest --from-cc COMPILER WORDS
 Reads the files of a link, and writes on standard output the manifest that `link` reads: which symbols each object has.
 
 LINKER WORDS are those of ld: files, -l and -L, --start-group, --whole-archive, --as-needed, -Bstatic, -static, -shared,
--pie, -r, -e, -u, --defsym, --wrap, --version-script, --dynamic-list, --export-dynamic-symbol, --start-lib, -T, @FILE and so
-on. Words that change nothing which a manifest tells are passed over; for those that would, there is a warning.
-With --from-cc, the compiler is asked (by -###) for the words that it would give to its linker; name objects, not sources.
+-pie, -r, -e, -u, --defsym, --wrap, --version-script, --dynamic-list, --export-dynamic-symbol, --start-lib, -T, @FILE
+and so on. Words that change nothing which a manifest tells are passed over; for those that would, there is a warning.
+With --from-cc, the compiler is asked (by -###) for the words that it would give to its linker; name objects, not
+sources.
 
 Read are ELF objects of 64 bits, archives (thin ones too), shared objects and linker scripts.
-Ends with 0, or with 1 and one line `error: FILE: ..` on standard error. Warnings and progress come on standard error too.
+Ends with 0, or with 1 and one line `error: FILE: ..` on standard error. Warnings and progress come on standard error
+too.
 """
 
 
@@ -80,6 +82,9 @@ def manifest_of(words, warnings):
 
 def main(words):
     """Runs the tool, and answers its status."""
+    if sys.stderr is None:
+        # Warnings would go to standard output.
+        sys.stderr = open(os.devnull, "w", encoding="utf-8")
     if words[:1] == ["--help"] or words == ["-h"]:
         print(HELP, end="")
         return 0
