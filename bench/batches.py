@@ -3,11 +3,12 @@
 
     python3 bench/batches.py [PROGRAM] [COUNT..]
 
-PROGRAM is the built program, crates/link_program/out/link_program by default (./wolzhyke builds it). COUNT is a number of objects,
-by default 102400, so that 256 batches have 400 each. The links are those of bench.py: a chain and a fan of archive members with ten
-references each, and a mixed link. Each runs with one worker, as 1, 16 and 256 batches of neighbouring objects; the numbers of
-batches run in turn, three times, and the figures are the least of these runs. Prints a line for each: the seconds from the bytes of
-the manifest to the report, the most memory held, and the time to that of one batch.
+PROGRAM is the built program, crates/link_program/out/link_program by default (./wolzhyke builds it). COUNT is a number
+of objects, by default 102400, so that 256 batches have 400 each. The links are those of bench.py: a chain and a fan of
+archive members with ten references each, and a mixed link. Each runs with one worker, as 1, 16 and 256 batches of
+neighbouring objects; the numbers of batches run in turn, three times, and the figures are the least of these runs.
+Prints a line for each: the seconds from the bytes of the manifest to the report, the most memory held, and the time to
+that of one batch.
 """
 
 from bench import chain, fan, mixed, run

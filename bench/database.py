@@ -3,12 +3,12 @@
 
     python3 bench/database.py [PROGRAM] [SYMBOLS..]
 
-PROGRAM is the built program, crates/link_tests_db/out/link_tests_db by default (`rt run` in its crate builds it). SYMBOLS is
-how many symbols there are in all, by default 100000 and 1000000, in objects of 100. A line for each number of
-processors that the program may use, which is the number of workers too; `map` is the plain map, by one. The kinds run in turn,
-nine times, so that other work on the machine meets all alike. The figures are the least of these runs: seconds to add all, or
-to put all names into the map; seconds to look all names up; the most memory that the program held, its inputs with it. The
-last column is the time to add all, to that of the map.
+PROGRAM is the built program, crates/link_tests_db/out/link_tests_db by default (`rt run` in its crate builds it).
+SYMBOLS is how many symbols there are in all, by default 100000 and 1000000, in objects of 100. A line for each number
+of processors that the program may use, which is the number of workers too; `map` is the plain map, by one. The kinds
+run in turn, nine times, so that other work on the machine meets all alike. The figures are the least of these runs:
+seconds to add all, or to put all names into the map; seconds to look all names up; the most memory that the program
+held, its inputs with it. The last column is the time to add all, to that of the map.
 """
 
 import os

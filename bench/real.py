@@ -3,12 +3,12 @@
 
     python3 bench/real.py [PROGRAM] [WORKERS..]
 
-PROGRAM is the built program, crates/link_program/out/link_program by default (./wolzhyke builds it); WORKERS are by default
-1, 2 and 4. It wants a C++ compiler and LLVM's static archives (Debian's `llvm-14-dev`), which an `llvm-config` names, and
-tells ld, gold, lld and mold where they are there. A small C program that parses a module, optimises it and knows the X86
-target is linked against all of them, from the manifest by tools/manifest to the report. A line each: the step, the seconds
-it took (the least of three runs), and the most memory that it held. Below lld and mold stand phases that they tell
-themselves: reading the inputs, in which lld resolves names too, and mold's resolving.
+PROGRAM is the built program, crates/link_program/out/link_program by default (./wolzhyke builds it); WORKERS are by
+default 1, 2 and 4. It wants a C++ compiler and LLVM's static archives (Debian's `llvm-14-dev`), which an `llvm-config`
+names, and tells ld, gold, lld and mold where they are there. A small C program that parses a module, optimises it and
+knows the X86 target is linked against all of them, from the manifest by tools/manifest to the report. A line each: the
+step, the seconds it took (the least of three runs), and the most memory that it held. Below lld and mold stand phases
+that they tell themselves: reading the inputs, in which lld resolves names too, and mold's resolving.
 """
 
 import json

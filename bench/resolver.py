@@ -3,14 +3,15 @@
 
     python3 bench/resolver.py [PROGRAM] [OBJECTS..]
 
-PROGRAM is the built program, crates/link_tests_core/out/link_tests_core by default (`rt run` in its crate builds it). OBJECTS
-is how many objects there are, by default 100001, of which all but one are members of archives, and all come to be loaded. In a
-chain each refers to the next ten; in a fan the first refers to all, and each other to ten, spread over all; in a tree each refers
-to two. A line for each number of workers, on as many processors. The kinds run in turn, nine times, so that other work on the
-machine meets all alike; the figures are the least of these runs. `load s` is the resolver's call for a batch alone, behind the reading of all
-names into the database; `point s` is the one behind the last batch, which points symbols to what they stand for; `names s` is one work list that
-looks each name up in that database, shares nothing and notes marks alone; `list s` is `least_closed` over the edges, which looks no name up. The last
-columns are the time to load, to that of one worker and to that of the list that looks names up.
+PROGRAM is the built program, crates/link_tests_core/out/link_tests_core by default (`rt run` in its crate builds it).
+OBJECTS is how many objects there are, by default 100001, of which all but one are members of archives, and all come to
+be loaded. In a chain each refers to the next ten; in a fan the first refers to all, and each other to ten, spread over
+all; in a tree each refers to two. A line for each number of workers, on as many processors. The kinds run in turn, nine
+times, so that other work on the machine meets all alike; the figures are the least of these runs. `load s` is the
+resolver's call for a batch alone, behind the reading of all names into the database; `point s` is the one behind the
+last batch, which points symbols to what they stand for; `names s` is one work list that looks each name up in that
+database, shares nothing and notes marks alone; `list s` is `least_closed` over the edges, which looks no name up. The
+last columns are the time to load, to that of one worker and to that of the list that looks names up.
 """
 
 import os

@@ -3,9 +3,10 @@
 
     python3 bench/rivals.py [PROGRAM] [COUNT..]
 
-PROGRAM is the built program, crates/link_program/out/link_program by default (./wolzhyke builds it). COUNT is a number of rivals,
-by default 1000, 10000 and 100000. `one` is one name that so many objects define weakly, `pairs` are so many names that each of two
-objects defines weakly. Prints a line for each: processor seconds, the least of three runs, and the most memory that was held.
+PROGRAM is the built program, crates/link_program/out/link_program by default (./wolzhyke builds it). COUNT is a number
+of rivals, by default 1000, 10000 and 100000. `one` is one name that so many objects define weakly, `pairs` are so many
+names that each of two objects defines weakly. Prints a line for each: processor seconds, the least of three runs, and
+the most memory that was held.
 """
 
 import json

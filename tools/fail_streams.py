@@ -3,10 +3,11 @@
 
     tools/fail_streams.py PROGRAM
 
-A library in front of the C library's, which `cc` builds, gives 7 bytes a call of standard input and takes 5 a call of standard
-output. On `link 2` of `examples/archive.json`: where read k fails the status has to be 4, and where write k fails 5, with just the
-5 (k - 1) bytes before it written; where both fail at once 5, with nothing written; where k is behind the last call, and where every other call is
-interrupted, or all calls give and take as much as they can, 0 with the report. What ends otherwise is told; then the status is 1.
+A library in front of the C library's, which `cc` builds, gives 7 bytes a call of standard input and takes 5 a call of
+standard output. On `link 2` of `examples/archive.json`: where read k fails the status has to be 4, and where write k
+fails 5, with just the 5 (k - 1) bytes before it written; where both fail at once 5, with nothing written; where k is
+behind the last call, and where every other call is interrupted, or all calls give and take as much as they can, 0 with
+the report. What ends otherwise is told; then the status is 1.
 """
 import os
 import pathlib
@@ -65,6 +66,9 @@ def cases(manifest, report):
 
 
 def main():
+    if len(sys.argv) != 2 or sys.argv[1] in ("-h", "--help"):
+        print(__doc__.strip())
+        sys.exit(0 if sys.argv[1:] in (["-h"], ["--help"]) else 2)
     program = os.path.abspath(sys.argv[1])
     examples = pathlib.Path(__file__).parent.parent / "examples"
     manifest, report = ((examples / f"archive.{end}").read_bytes() for end in ("json", "report"))

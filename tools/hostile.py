@@ -7,18 +7,18 @@ PART is `shapes`, `products`, `longest`, `stack` or `limits` (all of them if non
 
 - shapes: manifests of M megabytes (10 if not given), each of one thing again and again: values that say nothing in few
   bytes, texts, numbers, and links of many equal names, objects, sections, groups and options.
-- products: what takes the time of a product: names of one FNV-1a slot with the bits of their numbers, patterns that begin and end
-  with a star with names, a long pattern with a long name.
+- products: what takes the time of a product: names of one FNV-1a slot with the bits of their numbers, patterns that
+  begin and end with a star with names, a long pattern with a long name.
 - longest: texts of the greatest length that is read, and a byte more.
 - stack: links and refusals with one worker and a stack that can't grow past the 128 KiB which each process has from the
   start, and the least stack that they need.
-- limits: links under a limit of the address space, from what the program needs to say that it wants words to what the link
-  needs: each ends with status 6 and nothing written, or with the bytes that are due.
+- limits: links under a limit of the address space, from what the program needs to say that it wants words to what the
+  link needs: each ends with status 6 and nothing written, or with the bytes that are due.
 
-Prints a line for each: how it ended, processor seconds, and the most memory that it held, in bytes for a byte of text. A run
-that ends by a signal, otherwise than is due, after more than S seconds (10 if not given) for 10 megabytes, with more than B
-bytes a byte (150 if not given), or with more than N nanoseconds a step of a product (1000 if not given), is told; then the
-status is 1.
+Prints a line for each: how it ended, processor seconds, and the most memory that it held, in bytes for a byte of text.
+A run that ends by a signal, otherwise than is due, after more than S seconds (10 if not given) for 10 megabytes, with
+more than B bytes a byte (150 if not given), or with more than N nanoseconds a step of a product (1000 if not given), is
+told; then the status is 1.
 """
 import argparse
 import itertools

@@ -3,11 +3,11 @@
 
     tools/hostile_scripts.py PROGRAM [--megabytes M] [--seconds S] [PART..]
 
-A script of M megabytes (10 if not given) repeats one part (all of them in turn, or those that are named): blanks, comments,
-names, patterns, versions, blocks and so on. It stands in a manifest as version script and as export list, in frames that close it, and that leave it open in each place. A
-link of one small object reads it. Prints a line for each part, with the slowest of its frames. A run that ends by a signal,
-with a status other than 0 and 1, or after more than S processor seconds (5 if not given) for 10 megabytes, is told; then the
-status is 1.
+A script of M megabytes (10 if not given) repeats one part (all of them in turn, or those that are named): blanks,
+comments, names, patterns, versions, blocks and so on. It stands in a manifest as version script and as export list, in
+frames that close it, and that leave it open in each place. A link of one small object reads it. Prints a line for each
+part, with the slowest of its frames. A run that ends by a signal, with a status other than 0 and 1, or after more than
+S processor seconds (5 if not given) for 10 megabytes, is told; then the status is 1.
 """
 import argparse
 import json

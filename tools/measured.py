@@ -1,6 +1,7 @@
 """Runs a program on a text that is written piece by piece, and tells how it ended, what it wrote, its time and its memory.
 
-What this process holds itself counts as held by what it starts, so texts are generators of pieces, and never stand in memory."""
+What this process holds itself counts as held by what it starts, so texts are generators of pieces, and never stand in
+memory."""
 import dataclasses
 import os
 import resource

@@ -4,10 +4,11 @@
     tools/refuse_allocations.py PROGRAM [--every] [--jobs J] [NAME..]
 
 The commands are those of the names, or one of each kind; with `--every` all worked examples with two workers, and all
-commands of this folder. Each runs twice for each of its allocations: that one alone is refused, or that one and all behind
-it. A library in front of the C library's counts and refuses them; `cc` builds it. A run has to end with status 6 and nothing
-written, or, where the program could do without, with the status and the bytes that are due. What ends otherwise is told with
-the allocation's number; then the status is 1. J commands (one a processor) are tried side by side.
+commands of this folder. Each runs twice for each of its allocations: that one alone is refused, or that one and all
+behind it. A library in front of the C library's counts and refuses them; `cc` builds it. A run has to end with status 6
+and nothing written, or, where the program could do without, with the status and the bytes that are due. What ends
+otherwise is told with the allocation's number; then the status is 1. J commands (one a processor) are tried side by
+side.
 """
 import argparse
 import concurrent.futures

@@ -33,6 +33,9 @@ def commands(folder):
 
 
 def main():
+    if len(sys.argv) != 2 or sys.argv[1] in ("-h", "--help"):
+        print(__doc__.strip())
+        sys.exit(0 if sys.argv[1:] in (["-h"], ["--help"]) else 2)
     program = sys.argv[1]
     folder = pathlib.Path(__file__).parent
     failed = run = 0

@@ -3,13 +3,14 @@
 
     tools/soak.py PROGRAM --cases 'COMMAND' [--seconds S] [--from SEED] [--seeds N] [--slice N] [--jobs J]
 
-COMMAND FOLDER N SEED (the last three words are put behind it) writes the cases of N seeds from SEED on into a folder: for
-each one SEED.json, standard input; SEED.words, the words; SEED.status and SEED.out, the status and the bytes that are due, by
-a program that shares no code with the one that is tried. A slice is N of them (200 if not given). J slices (one a processor)
-run side by side, and for S seconds (60 if not given) new ones begin, until N seeds are done. Each case runs with its own
-words, and where these are `link W` with another number of workers too. Prints a line for each slice with its seeds, and at
-the end where to go on. A case whose status or bytes differ, that ends by a signal, or that takes more than a processor
-second, is told and left in soak_differs/; then the status is 1. It is fastest where TMPDIR is in memory.
+COMMAND FOLDER N SEED (the last three words are put behind it) writes the cases of N seeds from SEED on into a folder:
+for each one SEED.json, standard input; SEED.words, the words; SEED.status and SEED.out, the status and the bytes that
+are due, by a program that shares no code with the one that is tried. A slice is N of them (200 if not given). J slices
+(one a processor) run side by side, and for S seconds (60 if not given) new ones begin, until N seeds are done. Each
+case runs with its own words, and where these are `link W` with another number of workers too. Prints a line for each
+slice with its seeds, and at the end where to go on. A case whose status or bytes differ, that ends by a signal, or that
+takes more than a processor second, is told and left in soak_differs/; then the status is 1. It is fastest where TMPDIR
+is in memory.
 """
 import argparse
 import concurrent.futures

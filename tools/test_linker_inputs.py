@@ -335,6 +335,13 @@ class ResponseFiles(InFolder):
             with self.subTest(line=line), self.assertRaises(Fault):
                 words_of_compiler(line)
 
+    def test_source(self):
+        """A compiler that would compile first gives the linker an object that isn't there."""
+        self.write({"cc": b"#!/bin/sh\nprintf ' cc1 a.c\\n collect2 a.o\\n' >&2\n"})
+        os.chmod("cc", 0o755)
+        with self.assertRaisesRegex(Fault, "cc: would compile a source first"):
+            words_of_compiler(["./cc", "a.c"])
+
     def test_long(self):
         """Words that are too many for a command reach the compiler in a file, and come back in the one that it keeps."""
         many = [f"{number:099}" for number in range(70000)]

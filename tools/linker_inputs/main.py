@@ -54,6 +54,8 @@ def told_words(words):
     commands = [line for line in lines if line.startswith(" ")]
     if done.returncode != 0 or not commands:
         raise Fault(words[0], f"tells no linker's words: {[line for line in lines if line][-1:]}")
+    if len(commands) > 1:
+        raise Fault(words[0], "would compile a source first: name its object")
     return split(commands[-1])[1:]
 
 
