@@ -3,14 +3,14 @@
 
     python3 bench/bench.py [PROGRAM] [COUNT..]
 
-PROGRAM is the built program, crates/link_program/out/link_program by default (./wolzhyke builds it). COUNT is a number
-of archive members, by default 1000, 10000 and 100000. A chain is main.o and members of which each refers to the next,
-or to the next ten; a fan is a main.o that refers to every member, and members that refer to one or ten others, spread
-over all. Every member is loaded in each. A mixed link has a tenth as many objects of a hundred symbols each: plain and
-versioned definitions, weak and common rivals, a COMDAT group that ten objects share, and references. `bulk` is the
-made-up link of so many members. The greatest ones are run with 1, 2, 4 and 8 workers, the others with one. Prints a
-line for each: its size, the number of symbols, the seconds that the program took, its microseconds a symbol, and the
-most memory that it held.
+PROGRAM is the built program, crates/link_program/out/link_program by default (`rt run` in its crate builds it). COUNT is
+a number of archive members, by default 1000, 10000 and 100000. A chain is main.o and members of which each refers to the
+next, or to the next ten; a fan is a main.o that refers to every member, and members that refer to one or ten others,
+spread over all. Every member is loaded in each. A mixed link has a tenth as many objects of a hundred symbols each:
+plain and versioned definitions, weak and common rivals, a COMDAT group that ten objects share, and references. `bulk`
+is the made-up link of so many members. The greatest ones are run with 1, 2, 4 and 8 workers, the others with one.
+Prints a line for each: its size, the number of symbols, the seconds that the program took, its microseconds a symbol,
+and the most memory that it held.
 """
 
 import json
