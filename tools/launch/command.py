@@ -158,6 +158,8 @@ def run(words):
         tell("wolzhyke: `./wolzhyke --help` says which words there are\n")
         return say("error: usage\n") or NO_COMMAND
     if are_files(words):
+        if ask_for_help(words[3:]):
+            return say(HELP)
         try:
             manifest = manifest_of(words[3:])
         except OSError as reason:
@@ -172,6 +174,11 @@ def run(words):
     path = program()
     os.execv(path, [path, *words])
     return NOT_BUILT
+
+
+def ask_for_help(words):
+    """Whether words behind `--` ask what words there are."""
+    return words[:1] == ["--help"] or words == ["-h"]
 
 
 def say(text):

@@ -75,7 +75,7 @@ def manifest_of(words, warnings):
     command = read_words(words, warnings)
     inputs = Inputs(command, warnings)
     if not inputs.entries:
-        raise Fault("words", "name no object")
+        raise Fault("LINKER WORDS", "no object is among them")
     written = "".join(manifest_pieces(command, inputs)).encode()
     if len(written) > MOST_BYTES:
         raise Fault("manifest", f"would have {len(written)} bytes, and the program reads {MOST_BYTES}")
