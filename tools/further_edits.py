@@ -1,10 +1,11 @@
 #!/usr/bin/env python3
 """tools/further_edits.py [CRATE..]
 
-Tries the edits of crates/CRATE/further-edits, of all crates without a CRATE: the check has to refuse each. The gate tries those of
-must-fail alone. It works on a copy of the crates, in which the further edits stand in the place of the others, by `rt must-fail`.
-How many were refused is told at the end. An edit with which a crate is still proved is named, as is one that couldn't be tried; the
-status is then 1. It begins with what checks on this machine have kept, and takes an hour or two of a processor where they kept nothing.
+Tries the edits of crates/CRATE/further-edits, of all crates without a CRATE: the check has to refuse each. The gate
+tries those of must-fail alone. It works on a copy of the crates, in which the further edits stand in the place of the
+others, by `rt must-fail`. How many were refused is told at the end. An edit with which a crate is still proved is
+named, as is one that couldn't be tried; the status is then 1. It begins with what checks on this machine have kept, and
+takes an hour or two of a processor where they kept nothing.
 """
 import pathlib
 import re
