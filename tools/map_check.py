@@ -3,6 +3,7 @@
 
 An item of the map begins with '- `HEAD`:' or with '- `HEAD`,' and goes on in indented lines.
 - 'Stands on: A, B.' at its end lists what the crate HEAD stands on; 'Stands on: nothing.' that it stands on no other.
+  'No crate stands on it.' in such an item says that HEAD stands in no other list.
 - 'Definitions: `a`, `b`.' or 'Laws: `a`, `b`.' at its end lists what stands in the file HEAD.
 - What stands between backticks anywhere and has a slash in it is a file or a folder of the repository.
 """
@@ -16,6 +17,7 @@ TOP = Path(__file__).resolve().parent.parent
 ITEM = re.compile(r"^- `([^`]+)`[:,](.*(?:\n[ ]+.*)*)", re.MULTILINE)
 STANDS_ON = re.compile(r"Stands on: ([^.]*)\.\s*$")
 HOLDS = re.compile(r"(?:Definitions|Laws): ([^.]*)\.\s*$")
+ALONE = "No crate stands on it."
 MARKS = re.compile(r"(?:Stands on|Definitions|Laws): ")
 NAMED = re.compile(r"`([^`\s]+)`")
 FENCED = re.compile(r"^```.*?^```$", re.MULTILINE | re.DOTALL)
@@ -67,6 +69,12 @@ def crate_faults(told, crates):
     return faults
 
 
+def alone_faults(items, crates):
+    """Crates of which the map says that none stands on them, with those that do."""
+    alone = [head for head, text in items if ALONE in text]
+    return [f"{head}: {name} stands on it" for head in alone for name in crates if head in crates[name]]
+
+
 def path_of(name, top):
     """The file or folder of a name in the map, or none. A module of definitions is named without its ending."""
     for path in (top / name, top / "crates" / name, top / "crates" / f"{name}.antt"):
@@ -107,8 +115,8 @@ def form_faults(items):
 
 def faults_of(text, crates_text, top):
     """All differences, a line each."""
-    items = items_of(text)
-    faults = form_faults(items) + crate_faults(told_crates(items), crates_of(crates_text))
+    items, crates = items_of(text), crates_of(crates_text)
+    faults = form_faults(items) + crate_faults(told_crates(items), crates) + alone_faults(items, crates)
     return faults + source_faults(text, items, top)
 
 

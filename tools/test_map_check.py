@@ -59,6 +59,10 @@ class MapCheck(unittest.TestCase):
         above = ["low: does not stand on high", "low: comes before high in the map"]
         self.assertEqual(self.faults("Stands on: nothing.", "Stands on: high."), above)
 
+    def test_a_crate_is_alone(self):
+        self.assertEqual(self.faults(": all.", ": all. No crate stands on it."), [])
+        self.assertEqual(self.faults("in two lines.", "in two lines. No crate\n  stands on it."), ["middle: high stands on it"])
+
     def test_lists_have_their_form(self):
         form = "low/src/lib.rt: its list does not end with a full stop at the end of the item"
         self.assertEqual(self.faults("`words_are_texts`.", "`words_are_texts`"), [form])
