@@ -232,6 +232,7 @@ class Words(unittest.TestCase):
         ("-L=/lib -L dir -lz -l:x.a --library=y -T s.ld", {"search": ["=/lib", "dir"], "inputs": [("library", "z"), ("library", ":x.a"), ("library", "y"), ("script", "s.ld")]}),
         ("-e start -u a -ub --undefined=c --wrap=w --wrap x", {"entry": "start", "force_undefined": ["a", "b", "c"], "wrap": ["w", "x"]}),
         ("-e 0x400", {"entry": ""}),
+        ("--require-defined=a --require-defined b", {"force_undefined": ["a", "b"]}),
         ("--defsym=a=b+4 --defsym c=0x10", {"defsym": [("a", ["b"]), ("c", [])]}),
         ("-shared -soname=x -h y -Bsymbolic", {"output": "shared"}),
         ("-r -d", {"output": "partial"}),
@@ -254,9 +255,9 @@ class Words(unittest.TestCase):
 
     def test_warnings(self):
         stream = io.StringIO()
-        words.read_words("--gc-sections --gc-sections --no-such-word a.o".split(), Warnings(stream))
+        words.read_words("--gc-sections --gc-sections --no-such-word a.o --require-defined=f".split(), Warnings(stream))
         told = stream.getvalue().splitlines()
-        self.assertEqual([line.split(":")[1].strip() for line in told], ["--gc-sections", "--no-such-word"])
+        self.assertEqual([line.split(":")[1].strip() for line in told], ["--gc-sections", "--no-such-word", "--require-defined f"])
 
     def test_refused(self):
         for line in ("-u", "--defsym=a", "--version-script=no/such/file", "-b binary"):

@@ -163,6 +163,11 @@ class WordReader:
         """The entry point, where it is a name; an address is none."""
         self.command.entry = "" if value[:1].isdigit() else value
 
+    def require(self, value):
+        """A name that has to be defined. A manifest can ask for it, and no more."""
+        self.command.force_undefined.append(value)
+        self.warnings.tell(f"--require-defined {value}", "is read as -u: where nothing defines the name, the link isn't refused")
+
     def add_redirect(self, value):
         """`NAME=EXPRESSION`."""
         name, mark, expression = value.partition("=")
@@ -204,7 +209,7 @@ def input_of(kind):
 VALUED = {
     "l": input_of("library"), "library": input_of("library"), "T": input_of("script"), "script": input_of("script"),
     "default-script": input_of("script"), "dT": input_of("script"), "L": listing("search"), "library-path": listing("search"),
-    "u": listing("force_undefined"), "undefined": listing("force_undefined"), "require-defined": listing("force_undefined"),
+    "u": listing("force_undefined"), "undefined": listing("force_undefined"), "require-defined": WordReader.require,
     "wrap": listing("wrap"), "export-dynamic-symbol": listing("force_export"), "defsym": WordReader.add_redirect,
     "e": WordReader.set_entry, "entry": WordReader.set_entry, "z": WordReader.set_keyword,
     "b": WordReader.set_format, "format": WordReader.set_format,
