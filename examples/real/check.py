@@ -114,7 +114,12 @@ def check_link(program, name, words, inside, outside):
 
 
 def main():
+    if sys.argv[1:] in (["-h"], ["--help"]):
+        print(__doc__.strip())
+        return 0
     program = [os.path.abspath(word) if os.path.exists(word) else word for word in sys.argv[1:]] or [str(PROGRAM)]
+    if shutil.which(program[0]) is None:
+        sys.exit(f"{program[0]} is no program: `rt run` in crates/link_program builds one")
     missing = [tool for tool in TOOLS if shutil.which(tool) is None]
     if not missing and "GNU ld" not in subprocess.run(["ld", "--version"], capture_output=True, text=True).stdout:
         missing = ["GNU ld"]
