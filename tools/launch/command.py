@@ -46,7 +46,7 @@ The report comes on standard output; a line `error: ..` in its place says why th
 
 The first call builds the program in some two minutes, from the same sources and with run-time checks: an index out of
 range, a sum that overflows or the like ends it by a signal. Nothing is proved by that. `prove` has the checker prove
-each function and its contract, in some forty minutes on four processors, and goes on where an interrupted call left
+each function and its contract, in about an hour on four processors, and goes on where an interrupted call left
 off. When a source changes, both programs are old.
 """
 
