@@ -4,8 +4,9 @@
 Tries the edits of crates/CRATE/further-edits, of all crates without a CRATE: the check has to refuse each. The gate
 tries those of must-fail alone. It works on a copy of the crates, in which the further edits stand in the place of the
 others, by `rt must-fail`. How many were refused is told at the end. An edit with which a crate is still proved is
-named, as is one that couldn't be tried; the status is then 1. It begins with what checks on this machine have kept, and
-takes an hour or two of a processor where they kept nothing.
+named, as is one that couldn't be tried; the status is then 1. It begins with the libraries that `rt ci` or `rt lib`
+left in crates/*/out; those that are missing or old are proved first. All edits take four hours of one processor behind
+that, so give some crates to one call and the others to another.
 """
 import pathlib
 import re
@@ -18,9 +19,14 @@ TOP = pathlib.Path(__file__).resolve().parents[1]
 OUTCOME = re.compile(r"rt: must-fail (\S+): (refused|NOT REFUSED|BAD EDIT|NOT TRIED)(.*)")
 
 
+def left_out(folder, names):
+    """What isn't copied of a folder: the gate's edits, and what a crate's out/ holds beside its library."""
+    return [name for name in names if name == "must-fail" or pathlib.Path(folder).name == "out" and name != "rlib"]
+
+
 def copied(room):
     """A copy of the crates in which each crate's further edits are the only ones. Answers the crates that have any."""
-    shutil.copytree(TOP / "crates", room / "crates", ignore=shutil.ignore_patterns("out", "must-fail"))
+    shutil.copytree(TOP / "crates", room / "crates", ignore=left_out)
     for name in ("crates.txt", "HANDLES"):
         shutil.copy(TOP / name, room)
     found = sorted((room / "crates").glob("*/further-edits"))
