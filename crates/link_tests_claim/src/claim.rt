@@ -5,7 +5,7 @@ ghost use Rattle.link_claim.specs.Steps.{start, after, AllLegal, IsAllRead};
 ghost use Rattle.link_claim.specs.Examples.{eight_files, three_files, three_files_read, two_workers};
 
 use bitflags::Flags;
-use link_claim::{AtomicPerSymbolFlags, Gate, OpenGate, Plan, Words, WorkSeat};
+use link_claim::{AtomicPerSymbolFlags, Closed, Gate, OpenGate, Plan, Words, WorkSeat};
 use link_flags::ValueFlags;
 use link_ids::{SymbolId, SymbolIdRange};
 use std::alloc::{AllocError, Global};
@@ -284,80 +284,149 @@ struct Outcome {
     seen: [u32; 2],
 }
 
-fn shared<R: Threads + Sync>(rt: &R, alloc: Global, threads: u64) -> Result<Outcome, AllocError> {
-    let (words, mut seat) = Words::create(alloc, &EightFiles)?;
-    let jobs = deal(alloc, &words, &mut seat, threads)?;
-    let lent = &words;
+/// Makes all steps on threads, and takes the seats back.
+fn run_all<R: Threads + Sync>(
+    rt: &R,
+    alloc: Global,
+    words: &Words<EightFiles>,
+    seat: &mut WorkSeat,
+    threads: u64,
+) -> Result<Tally, AllocError>
+    requires table { seat.old.table ≡ words.now }
+    requires work { seat.old.view.work ≡ eight_files }
+    ensures table { seat.new.table ≡ seat.old.table }
+    ensures work { seat.new.view.work ≡ eight_files }
+{
+    let jobs = deal(alloc, words, seat, threads)?;
     let done = thread::map_vec(
         rt,
         jobs,
         &|job: Job| -> Job
-            requires { (job.seat.table ≡ lent.now) × (job.seat.view.work ≡ eight_files) }
+            requires { (job.seat.table ≡ words.now) × (job.seat.view.work ≡ eight_files) }
             ensures { result.seat.table ≡ job.seat.table }
-        { run(lent, job) },
+        { run(words, job) },
     )?;
-    let all = gather(&words, &mut seat, done);
-    let second = second_flags(&words, &mut seat).map_or(0, |flags| flags.bits());
-    let first = first_flags(&words, &mut seat).bits();
-    let seen = [first, second];
-    let closed = words.close(seat);
+    Ok(gather(words, seat, done))
+}
+
+/// What the seat's own calls answer of the flags.
+fn seen_by(words: &Words<EightFiles>, seat: &mut WorkSeat) -> [u32; 2]
+    requires table { seat.old.table ≡ words.now }
+    requires work { seat.old.view.work ≡ eight_files }
+    ensures table { seat.new.table ≡ seat.old.table }
+    ensures work { seat.new.view.work ≡ eight_files }
+{
+    let second = second_flags(words, seat).map_or(0, |flags| flags.bits());
+    let first = first_flags(words, seat).bits();
+    [first, second]
+}
+
+/// Which of the eight files are claimed.
+fn claimed_files(closed: &Closed) -> [bool; 8]
+    requires { closed.now.view.work ≡ eight_files }
+{
     let mut files = [false; 8];
     for file in 0..FILES {
         files[file] = closed.is_claimed(file);
     }
-    let flags = [
+    files
+}
+
+/// The flags of both symbols.
+fn closed_flags(closed: &Closed) -> [u32; 2]
+    requires { closed.now.view.work ≡ eight_files }
+{
+    [
         closed.flags(SymbolId::from_usize(0)).bits(),
         closed.flags(SymbolId::from_usize(1)).bits(),
-    ];
+    ]
+}
+
+fn shared<R: Threads + Sync>(rt: &R, alloc: Global, threads: u64) -> Result<Outcome, AllocError> {
+    let (words, mut seat) = Words::create(alloc, &EightFiles)?;
+    let all = run_all(rt, alloc, &words, &mut seat, threads)?;
+    let seen = seen_by(&words, &mut seat);
+    let closed = words.close(seat);
     Ok(Outcome {
         claims: all.claims,
         begins: all.begins,
         requests: all.requests,
-        files,
-        flags,
+        files: claimed_files(&closed),
+        flags: closed_flags(&closed),
         seen,
     })
 }
 
-/// The same steps on plain values, one thread after another: each file is claimed once.
-fn plain(threads: u64) -> Outcome {
-    let mut files = [false; 8];
-    let mut flags = [16u32, 32];
-    let mut requests = 0u64;
-    for seed in 0..threads {
+/// What is left of requests and marks on plain values.
+#[derive(Clone, Copy, Drop)]
+struct PlainWork {
+    files: [bool; 8],
+    flags: [u32; 2],
+    requests: u64,
+}
+
+impl PlainWork {
+    /// One of many steps, as the number says.
+    fn step(&mut self, random: u64) {
+        let k = random >> 33;
+        match k % 3 {
+            0 => {
+                self.files[(k / 3 % 8) as usize] = true;
+                self.requests = self.requests.saturating_add(1);
+            }
+            1 => {
+                let bit = k / 3 % 4;
+                self.flags[(bit / 2) as usize] |= 1u32 << (bit as u32);
+            }
+            _ => {}
+        }
+    }
+
+    /// The steps of one thread.
+    fn run(&mut self, seed: u64) {
         let mut random = seed;
         for _ in 0..STEPS {
             random = after_random(random);
-            let k = random >> 33;
-            match k % 3 {
-                0 => {
-                    files[(k / 3 % 8) as usize] = true;
-                    requests = requests.saturating_add(1);
-                }
-                1 => {
-                    let bit = k / 3 % 4;
-                    flags[(bit / 2) as usize] |= 1u32 << (bit as u32);
-                }
-                _ => {}
-            }
+            self.step(random);
         }
+    }
+}
+
+/// The same steps on plain values, one thread after another: each file is claimed once.
+fn plain(threads: u64) -> Outcome {
+    let mut left = PlainWork {
+        files: [false; 8],
+        flags: [16, 32],
+        requests: 0,
+    };
+    for seed in 0..threads {
+        left.run(seed);
     }
     Outcome {
         claims: 8,
         begins: 1,
-        requests,
-        files,
-        flags,
-        seen: flags,
+        requests: left.requests,
+        files: left.files,
+        flags: left.flags,
+        seen: left.flags,
     }
 }
 
+/// Whether so many threads leave what one leaves, all files among it.
+fn is_as_plain<R: Threads + Sync>(rt: &R, alloc: Global, threads: u64) -> Result<bool, AllocError> {
+    let found = shared(rt, alloc, threads)?;
+    Ok(found == plain(threads) && found.files == [true; 8])
+}
+
+const THREADS: &[u64] = &[1, 2, 64];
+
 #[test]
 fn threads_leave_what_one_leaves(rt: HostRuntime) -> Result<(), Fail> {
-    for threads in [1, 2, 64] {
-        let found = shared(&rt, rt.alloc(), threads)?;
-        assert_eq!(rt; found, plain(threads), "with {threads} threads");
-        assert!(rt; found.files == [true; 8]);
+    for &threads in THREADS {
+        assert!(rt;
+            is_as_plain(&rt, rt.alloc(), threads)?,
+            "with {threads} threads"
+        );
     }
     Ok(())
 }

@@ -265,29 +265,79 @@ fn by_threads<R: Threads + Sync, G: Gate + Sync>(
     })
 }
 
-#[test]
-fn as_one_thread_finds_it(rt: HostRuntime) -> Result<(), Fail> {
-    let plan = Scattered::new(1000, 5, false);
-    let claimed = by_work_list(rt.alloc(), &plan)?;
-    let mut count = 0usize;
-    let mut found = Vec::new(rt.alloc());
-    for file in 0..claimed.len() {
-        found.push(claimed[file].then_some(file.saturating_mul(3).saturating_add(1)))?;
-        if claimed[file] {
-            count = count.saturating_add(1);
-        }
+/// A thousand files, of which five are roots.
+fn thousand_files() -> Scattered {
+    Scattered::new(1000, 5, false)
+}
+
+/// What is found in each file, where it is claimed.
+fn found_where(alloc: Global, claimed: &[bool]) -> Result<Vec<Option<usize>>, AllocError> {
+    let mut found = Vec::new(alloc);
+    let mut file = 0usize;
+    for &is_claimed in claimed {
+        found.push(is_claimed.then_some(file.saturating_mul(3).saturating_add(1)))?;
+        file = file.saturating_add(1);
     }
-    assert!(rt; 5 < count && count < 1000, "{count} files");
-    let wanted = Outcome {
+    Ok(found)
+}
+
+/// What one thread finds.
+fn by_one_thread(alloc: Global, plan: &Scattered) -> Result<Outcome, AllocError> {
+    let claimed = by_work_list(alloc, plan)?;
+    let found = found_where(alloc, &claimed)?;
+    Ok(Outcome {
         flags: 2,
         claimed,
         found,
-    };
-    for workers in [1, 2, 8, 64] {
-        let outcome = by_threads(&rt, rt.alloc(), &OpenGate, workers, &plan)?;
-        assert!(rt; outcome == wanted, "with {workers} workers");
+    })
+}
+
+/// How many of the thousand files one thread claims.
+fn count_by_one_thread(alloc: Global) -> Result<usize, AllocError> {
+    let claimed = by_work_list(alloc, &thousand_files())?;
+    let mut count = 0usize;
+    for &is_claimed in claimed.as_slice() {
+        if is_claimed {
+            count = count.saturating_add(1);
+        }
+    }
+    Ok(count)
+}
+
+/// Whether so many threads leave what one finds in the thousand files.
+fn is_as_by_one_thread<R: Threads + Sync>(
+    rt: &R,
+    alloc: Global,
+    workers: usize,
+) -> Result<bool, AllocError>
+    requires some { 0 < workers }
+    requires most { workers ≤ 256 }
+{
+    let plan = thousand_files();
+    let wanted = by_one_thread(alloc, &plan)?;
+    let outcome = by_threads(rt, alloc, &OpenGate, workers, &plan)?;
+    Ok(outcome == wanted)
+}
+
+const WORKERS: &[usize] = &[1, 2, 8, 64];
+
+#[test]
+fn as_one_thread_finds_it(rt: HostRuntime) -> Result<(), Fail> {
+    let count = count_by_one_thread(rt.alloc())?;
+    assert!(rt; count > 5, "{count} files");
+    assert!(rt; count < 1000, "{count} files");
+    for &workers in WORKERS {
+        assert!(rt;
+            is_as_by_one_thread(&rt, rt.alloc(), workers.max(1).min(256))?,
+            "with {workers} workers"
+        );
     }
     Ok(())
+}
+
+/// Whether there are so many files, and all of them are claimed.
+fn are_claimed(claimed: &[bool], files: usize) -> bool {
+    claimed.len() == files && claimed.iter().all(|is_claimed| *is_claimed)
 }
 
 /// It lets a thread through once four have come, or after many turns.
@@ -311,17 +361,24 @@ impl Gate for Meeting {
     fn after(&self, _item: usize) {}
 }
 
-#[test]
-fn four_threads_meet(rt: HostRuntime) -> Result<(), Fail> {
+/// Whether four threads read four files, how many of them came to the gate, and how many waited in vain.
+fn meet<R: Threads + Sync>(rt: &R, alloc: Global) -> Result<(bool, u64, u64), AllocError> {
     let plan = Scattered::new(4, 4, false);
     let gate = Meeting {
         came: AtomicU64::new(0),
         late: AtomicU64::new(0),
     };
-    let outcome = by_threads(&rt, rt.alloc(), &gate, 4, &plan)?;
-    assert_eq!(rt; outcome.claimed.as_slice(), [true; 4].as_slice());
-    assert_eq!(rt; gate.came.load(Ordering::SeqCst), 4);
-    assert_eq!(rt; gate.late.load(Ordering::SeqCst), 0);
+    let outcome = by_threads(rt, alloc, &gate, 4, &plan)?;
+    Ok((
+        are_claimed(&outcome.claimed, 4),
+        gate.came.load(Ordering::SeqCst),
+        gate.late.load(Ordering::SeqCst),
+    ))
+}
+
+#[test]
+fn four_threads_meet(rt: HostRuntime) -> Result<(), Fail> {
+    assert_eq!(rt; meet(&rt, rt.alloc())?, (true, 4, 0));
     Ok(())
 }
 
@@ -351,46 +408,75 @@ impl Gate for Passing {
     fn after(&self, _item: usize) {}
 }
 
-/// The files 0 and 1 are roots. The item 0 requests the file 2, whose item is read while the item 1 still waits.
-#[test]
-fn there_are_no_rounds(rt: HostRuntime) -> Result<(), Fail> {
+/// Whether two threads read three files, and how many of them waited in vain.
+fn pass<R: Threads + Sync>(rt: &R, alloc: Global) -> Result<(bool, u64), AllocError> {
     let plan = Scattered::new(3, 2, false);
     let gate = Passing {
         came: AtomicU64::new(0),
         late: AtomicU64::new(0),
     };
-    let outcome = by_threads(&rt, rt.alloc(), &gate, 2, &plan)?;
-    assert_eq!(rt; outcome.claimed.as_slice(), [true; 3].as_slice());
-    assert_eq!(rt; gate.late.load(Ordering::SeqCst), 0);
+    let outcome = by_threads(rt, alloc, &gate, 2, &plan)?;
+    Ok((
+        are_claimed(&outcome.claimed, 3),
+        gate.late.load(Ordering::SeqCst),
+    ))
+}
+
+/// The files 0 and 1 are roots. The item 0 requests the file 2, whose item is read while the item 1 still waits.
+#[test]
+fn there_are_no_rounds(rt: HostRuntime) -> Result<(), Fail> {
+    assert_eq!(rt; pass(&rt, rt.alloc())?, (true, 0));
     Ok(())
+}
+
+/// How many files and items there are in the outcome of a plan without files, and its flags.
+fn read_none<R: Threads + Sync>(rt: &R, alloc: Global) -> Result<(usize, usize, u32), AllocError> {
+    let plan = Scattered::new(0, 0, false);
+    let outcome = by_threads(rt, alloc, &OpenGate, 2, &plan)?;
+    Ok((outcome.claimed.len(), outcome.found.len(), outcome.flags))
 }
 
 #[test]
 fn a_plan_without_files_is_read(rt: HostRuntime) -> Result<(), Fail> {
-    let plan = Scattered::new(0, 0, false);
-    let outcome = by_threads(&rt, rt.alloc(), &OpenGate, 2, &plan)?;
-    assert!(rt; outcome.claimed.is_empty() && outcome.found.is_empty());
-    assert_eq!(rt; outcome.flags, 0);
+    assert_eq!(rt; read_none(&rt, rt.alloc())?, (0, 0, 0));
     Ok(())
 }
+
+/// Whether every file is claimed, and every item found.
+fn is_all_read(outcome: &Outcome) -> bool {
+    outcome.claimed.iter().all(|claimed| *claimed)
+        && outcome.found.iter().all(|found| found.is_some())
+}
+
+/// How often the files of items are asked for in a chain where the hint of this call is lost; nothing if not all is read.
+fn looks_in_chain<R: Threads + Sync>(
+    rt: &R,
+    alloc: Global,
+    workers: usize,
+    lost: u64,
+) -> Result<Option<u64>, AllocError>
+    requires some { 0 < workers }
+    requires most { workers ≤ 256 }
+{
+    let mut plan = Scattered::new(2000, 1, true);
+    plan.lost = Some(lost);
+    let outcome = by_threads(rt, alloc, &OpenGate, workers, &plan)?;
+    Ok(is_all_read(&outcome).then_some(plan.looks.load(Ordering::SeqCst)))
+}
+
+/// How many workers there are, and the call whose hint is lost.
+const CHAINS: &[(usize, u64)] = &[(1, 0), (1, 1), (1, 1000), (2, 0), (2, 1), (2, 1000)];
 
 /// Where the hint of one link is lost, all behind it is left to the sweep, which asks for the files of items a few times, and not anew for
 /// each link. One worker gets no hints at all.
 #[test]
 fn a_chain_of_lost_hints_costs_few_looks(rt: HostRuntime) -> Result<(), Fail> {
-    for workers in [1, 2] {
-        for lost in [0, 1, 1000] {
-            let mut plan = Scattered::new(2000, 1, true);
-            plan.lost = Some(lost);
-            let outcome = by_threads(&rt, rt.alloc(), &OpenGate, workers, &plan)?;
-            assert!(rt; outcome.claimed.iter().all(|claimed| *claimed));
-            assert!(rt; outcome.found.iter().all(|found| found.is_some()));
-            let looks = plan.looks.load(Ordering::SeqCst);
-            assert!(rt;
-                looks <= 8000,
-                "{looks} looks with {workers} workers and call {lost} lost"
-            );
-        }
+    for &(workers, lost) in CHAINS {
+        let looks = looks_in_chain(&rt, rt.alloc(), workers.max(1).min(256), lost)?;
+        assert!(rt;
+            looks.is_some_and(|looks| looks <= 8000),
+            "with {workers} workers and call {lost} lost"
+        );
     }
     Ok(())
 }
