@@ -49,44 +49,61 @@ impl Write for Scripted {
     }
 }
 
+const INTERRUPTED: Turn = Turn::Fails(ErrorKind::Interrupted);
+
+const BROKEN: Turn = Turn::Fails(ErrorKind::BrokenPipe);
+
+/// What a call answers after these turns, which have a name: as a source, as a sink, and in how many turns.
+const ROWS: &[(&str, [Turn; 4], Option<usize>, Option<usize>, usize)] = &[
+    (
+        "two bytes come",
+        [Turn::Passes(2), BROKEN, BROKEN, BROKEN],
+        Some(2),
+        Some(2),
+        1,
+    ),
+    (
+        "two signals",
+        [INTERRUPTED, INTERRUPTED, Turn::Passes(9), BROKEN],
+        Some(3),
+        Some(3),
+        3,
+    ),
+    (
+        "a signal, and a fault",
+        [INTERRUPTED, BROKEN, Turn::Passes(2), BROKEN],
+        None,
+        None,
+        2,
+    ),
+    (
+        "nothing comes",
+        [Turn::Passes(0), Turn::Passes(2), BROKEN, BROKEN],
+        Some(0),
+        None,
+        1,
+    ),
+];
+
+/// Whether a source answers this after these turns, in so many of them.
+fn reads(turns: [Turn; 4], want: Option<usize>, calls: usize) -> bool {
+    let mut source = RealSource::new(Scripted { turns, calls: 0 });
+    let mut buf = [0u8; 3];
+    let read = source.read(&mut buf).ok();
+    read == want && source.reader.calls == calls
+}
+
+/// Whether a sink answers this after these turns.
+fn writes(turns: [Turn; 4], want: Option<usize>) -> bool {
+    let mut sink = RealSink::new(Scripted { turns, calls: 0 });
+    sink.write(b"abc").ok() == want
+}
+
 #[test]
 fn an_interrupted_call_is_made_again(rt: HostRuntime) -> Result<(), Fail> {
-    let interrupted = Turn::Fails(ErrorKind::Interrupted);
-    let broken = Turn::Fails(ErrorKind::BrokenPipe);
-    // What a call answers after these turns: as a source, as a sink, and in how many turns.
-    let rows = [
-        (
-            [Turn::Passes(2), broken, broken, broken],
-            Some(2),
-            Some(2),
-            1,
-        ),
-        (
-            [interrupted, interrupted, Turn::Passes(9), broken],
-            Some(3),
-            Some(3),
-            3,
-        ),
-        (
-            [interrupted, broken, Turn::Passes(2), broken],
-            None,
-            None,
-            2,
-        ),
-        (
-            [Turn::Passes(0), Turn::Passes(2), broken, broken],
-            Some(0),
-            None,
-            1,
-        ),
-    ];
-    for (row, (turns, read, written, calls)) in rows.into_iter().enumerate() {
-        let mut source = RealSource::new(Scripted { turns, calls: 0 });
-        let mut buf = [0u8; 3];
-        assert_eq!(rt; source.read(&mut buf).ok(), read, "row {row}");
-        assert_eq!(rt; source.reader.calls, calls, "row {row}");
-        let mut sink = RealSink::new(Scripted { turns, calls: 0 });
-        assert_eq!(rt; sink.write(b"abc").ok(), written, "row {row}");
+    for &(name, turns, read, written, calls) in ROWS {
+        assert!(rt; reads(turns, read, calls), "read: {name}");
+        assert!(rt; writes(turns, written), "written: {name}");
     }
     Ok(())
 }
