@@ -1,6 +1,6 @@
 //! What no clause says: that the calls succeed where memory is ample, with names that share a hash number.
 
-ghost use Rattle.std.specs.Prelude.{◌≡◌, ◌<◌, ◌&&◌, ℕ, IfOk, Some, option_map, slice_get};
+ghost use Rattle.std.specs.Prelude.{◌≡◌, ◌<◌, ◌&&◌, ℕ, IfOk, OnOk, Some, option_map, slice_get};
 ghost use Rattle.std.specs.Option.{option_eq};
 ghost use Rattle.std.specs.Str.{bytes_eq};
 ghost use Rattle.link_db_buckets.specs.declared.label.Label.TheVariants.{Plain, Versioned, Added};
@@ -14,7 +14,7 @@ use std::test::Fail;
 use std::thread::Threads;
 
 /// A name of a table, with its version where it has one.
-#[derive(Debug, Drop)]
+#[derive(Drop)]
 struct Entry {
     name: Name,
     version: Option<Name>,
@@ -125,18 +125,45 @@ fn numbers_are_those_of_siphash(rt: HostRuntime) -> Result<(), Fail> {
     Ok(())
 }
 
+/// A version on the heap, or none.
+fn make_version(alloc: Global, version: Option<&[u8]>) -> Result<Option<Name>, AllocError> {
+    match version {
+        Some(version) => Ok(Some(Name::from_slice(alloc, version)?)),
+        None => Ok(None),
+    }
+}
+
+/// An entry with this name and this version.
+fn make_entry(alloc: Global, name: &[u8], version: Option<&[u8]>) -> Result<Entry, AllocError> {
+    let version = make_version(alloc, version)?;
+    let name = Name::from_slice(alloc, name)?;
+    Ok(Entry { name, version })
+}
+
 /// The table of the entries.
 fn make_table(alloc: Global) -> Result<Texts, AllocError> {
     let mut entries = Vec::new(alloc);
     for &(name, version) in ENTRIES {
-        let version = match version {
-            Some(version) => Some(Name::from_slice(alloc, version)?),
-            None => None,
-        };
-        let name = Name::from_slice(alloc, name)?;
-        entries.push(Entry { name, version })?;
+        entries.push(make_entry(alloc, name, version)?)?;
     }
     Ok(Texts { entries })
+}
+
+/// Appends a definition of an entry.
+fn define(
+    definitions: &mut Vec<Definition>,
+    table: &Texts,
+    entry: u32,
+    id: u32,
+) -> Result<(), AllocError>
+    requires { AreHashed (⟦<Texts as Names>⟧.key_at table.now) definitions.old.items }
+    ensures { OnOk result (AreHashed (⟦<Texts as Names>⟧.key_at table.now) definitions.new.items) }
+{
+    let label = Label::Plain(entry);
+    if let Some(hash) = table.number(label) {
+        definitions.push(Definition { hash, label, id })?;
+    }
+    Ok(())
 }
 
 /// Definitions of entries, with ids.
@@ -149,12 +176,45 @@ fn definitions(
 {
     let mut definitions = Vec::new(alloc);
     for &(entry, id) in pairs {
-        let label = Label::Plain(entry);
-        if let Some(hash) = table.number(label) {
-            definitions.push(Definition { hash, label, id })?;
-        }
+        define(&mut definitions, table, entry, id)?;
     }
     Ok(definitions)
+}
+
+/// Appends an id, with a blank behind it.
+fn append_id(alloc: Global, text: &mut String, id: u32) -> Result<(), AllocError> {
+    text.push_str(format!(in alloc; "{id} ")?.as_str())
+}
+
+/// The ids, each with a blank behind it.
+fn ids_text(alloc: Global, definitions: &Definitions) -> Result<String, AllocError> {
+    let mut text = String::new(alloc);
+    append_id(alloc, &mut text, definitions.first())?;
+    for &id in definitions.later() {
+        append_id(alloc, &mut text, id)?;
+    }
+    Ok(text)
+}
+
+/// The ids of definitions that a name may have.
+fn listed(alloc: Global, definitions: Option<&Definitions>) -> Result<String, AllocError> {
+    match definitions {
+        Some(definitions) => ids_text(alloc, definitions),
+        None => Ok(String::new(alloc)),
+    }
+}
+
+/// What a name is mapped to.
+fn mapped_text(alloc: Global, mapped: Option<u32>) -> Result<String, AllocError> {
+    match mapped {
+        Some(id) => format!(in alloc; "> {id}"),
+        None => format!(in alloc; "> nothing"),
+    }
+}
+
+/// The version of an entry.
+fn version_of(entry: &Entry) -> Option<&[u8]> {
+    entry.version.as_ref().map(|version| version.as_slice())
 }
 
 /// The definitions of an entry's name, and what it is mapped to.
@@ -166,31 +226,42 @@ fn shown(
 ) -> Result<String, AllocError>
     requires { AreKeyed (⟦<Texts as Names>⟧.key_at table.now) buckets.now }
 {
-    let mut text = String::new(alloc);
     let Some(entry) = table.entries.get(entry) else {
-        return Ok(text);
+        return Ok(String::new(alloc));
     };
     let name = entry.name.as_slice();
-    let version = entry.version.as_ref().map(|version| version.as_slice());
+    let version = version_of(entry);
     let hash = key_hash(name, version);
-    if let Some(definitions) = buckets.definitions(table, hash, name, version) {
-        text.push_str(ids_text(alloc, definitions)?.as_str())?;
-    }
-    match buckets.mapped(table, hash, name, version) {
-        Some(id) => text.push_str(format!(in alloc; "> {id}")?.as_str())?,
-        None => text.push_str("> nothing")?,
-    }
+    let mut text = listed(alloc, buckets.definitions(table, hash, name, version))?;
+    let mapped = buckets.mapped(table, hash, name, version);
+    text.push_str(mapped_text(alloc, mapped)?.as_str())?;
     Ok(text)
 }
 
-/// The ids, each with a blank behind it.
-fn ids_text(alloc: Global, definitions: &Definitions) -> Result<String, AllocError> {
-    let first = definitions.first();
-    let mut text = format!(in alloc; "{first} ")?;
-    for id in definitions.later() {
-        text.push_str(format!(in alloc; "{id} ")?.as_str())?;
+/// Appends what is shown of an entry's name, and a mark behind it.
+fn append_shown(
+    alloc: Global,
+    text: &mut String,
+    buckets: &Buckets,
+    table: &Texts,
+    entry: usize,
+) -> Result<(), AllocError>
+    requires { AreKeyed (⟦<Texts as Names>⟧.key_at table.now) buckets.now }
+{
+    text.push_str(shown(alloc, buckets, table, entry)?.as_str())?;
+    text.push_str("; ")
+}
+
+/// Appends a sign for each head that is in use.
+fn append_used(text: &mut String, buckets: &Buckets) -> Result<(), AllocError> {
+    for bucket in buckets.buckets() {
+        for head in bucket.heads() {
+            if head.is_used() {
+                text.push_str("+")?;
+            }
+        }
     }
-    Ok(text)
+    Ok(())
 }
 
 /// All names, one after another, and how many heads are in use.
@@ -199,17 +270,17 @@ fn all_shown(alloc: Global, buckets: &Buckets, table: &Texts) -> Result<String, 
 {
     let mut text = String::new(alloc);
     for entry in 0..table.entries.len() {
-        text.push_str(shown(alloc, buckets, table, entry)?.as_str())?;
-        text.push_str("; ")?;
+        append_shown(alloc, &mut text, buckets, table, entry)?;
     }
-    for bucket in buckets.buckets() {
-        for head in bucket.heads() {
-            if head.is_used() {
-                text.push_str("+")?;
-            }
-        }
-    }
+    append_used(&mut text, buckets)?;
     Ok(text)
+}
+
+/// Whether this is shown of all names.
+fn is_shown(alloc: Global, buckets: &Buckets, table: &Texts, want: &str) -> Result<bool, AllocError>
+    requires { AreKeyed (⟦<Texts as Names>⟧.key_at table.now) buckets.now }
+{
+    Ok(all_shown(alloc, buckets, table)?.as_str() == want)
 }
 
 const FIRST: &[(u32, u32)] = &[
@@ -232,31 +303,85 @@ const AFTER_BOTH: &str =
 
 const COUNTS: &[usize] = &[1, 2, 256];
 
-/// Definitions are added, and some of them are taken back.
+/// Adds definitions of entries.
+fn add_definitions<R: Threads + Sync>(
+    rt: &R,
+    alloc: Global,
+    buckets: &mut Buckets,
+    table: &Texts,
+    pairs: &[(u32, u32)],
+) -> Result<(), AllocError>
+    requires { AreKeyed (⟦<Texts as Names>⟧.key_at table.now) buckets.old }
+    ensures { AreKeyed (⟦<Texts as Names>⟧.key_at table.now) buckets.new }
+{
+    let part = definitions(alloc, table, pairs)?;
+    buckets.apply(rt, table, &[part.as_slice()])
+}
+
+/// Takes the last definitions of entries back.
+fn take_back(
+    alloc: Global,
+    buckets: &mut Buckets,
+    table: &Texts,
+    pairs: &[(u32, u32)],
+) -> Result<(), AllocError>
+    requires { AreKeyed (⟦<Texts as Names>⟧.key_at table.now) buckets.old }
+    ensures { AreKeyed (⟦<Texts as Names>⟧.key_at table.now) buckets.new }
+{
+    let part = definitions(alloc, table, pairs)?;
+    buckets.undo(table, &[part.as_slice()]);
+    Ok(())
+}
+
+/// Buckets with the first definitions.
+fn with_first<R: Threads + Sync>(
+    rt: &R,
+    alloc: Global,
+    table: &Texts,
+    count: usize,
+) -> Result<Buckets, AllocError>
+    requires { 0 < count }
+    ensures { IfOk result (λ bs. AreKeyed (⟦<Texts as Names>⟧.key_at table.now) bs) }
+{
+    let mut buckets = Buckets::new(alloc, count)?;
+    add_definitions(rt, alloc, &mut buckets, table, FIRST)?;
+    Ok(buckets)
+}
+
+/// Adds the second definitions, and takes them back: whether both times all that is wanted is shown.
+fn are_told_apart<R: Threads + Sync>(
+    rt: &R,
+    alloc: Global,
+    buckets: &mut Buckets,
+    table: &Texts,
+) -> Result<(bool, bool), AllocError>
+    requires { AreKeyed (⟦<Texts as Names>⟧.key_at table.now) buckets.old }
+{
+    add_definitions(rt, alloc, buckets, table, SECOND)?;
+    let both = is_shown(alloc, buckets, table, AFTER_BOTH)?;
+    take_back(alloc, buckets, table, SECOND)?;
+    Ok((both, is_shown(alloc, buckets, table, AFTER_FIRST)?))
+}
+
+/// Whether so many buckets show what is wanted once definitions are added, and once some of them are taken back.
 fn added_and_taken_back<R: Threads + Sync>(
     rt: &R,
     alloc: Global,
     count: usize,
-) -> Result<(String, String), AllocError>
+) -> Result<(bool, bool), AllocError>
     requires { 0 < count }
 {
     let table = make_table(alloc)?;
-    let mut buckets = Buckets::new(alloc, count)?;
-    let first = definitions(alloc, &table, FIRST)?;
-    buckets.apply(rt, &table, &[first.as_slice()])?;
-    let second = definitions(alloc, &table, SECOND)?;
-    buckets.apply(rt, &table, &[second.as_slice()])?;
-    let both = all_shown(alloc, &buckets, &table)?;
-    buckets.undo(&table, &[second.as_slice()]);
-    Ok((both, all_shown(alloc, &buckets, &table)?))
+    let mut buckets = with_first(rt, alloc, &table, count)?;
+    are_told_apart(rt, alloc, &mut buckets, &table)
 }
 
 #[test]
 fn names_are_told_apart_in_any_number_of_buckets(rt: HostRuntime) -> Result<(), Fail> {
     for &count in COUNTS {
         let (both, first) = added_and_taken_back(&rt, rt.alloc(), count.max(1))?;
-        assert_eq!(rt; both.as_str(), AFTER_BOTH);
-        assert_eq!(rt; first.as_str(), AFTER_FIRST);
+        assert!(rt; both, "after both, in {count} buckets");
+        assert!(rt; first, "after the first, in {count} buckets");
     }
     Ok(())
 }
@@ -266,18 +391,46 @@ fn may_have(buckets: &Buckets, table: &Texts, entry: u32) -> Option<bool> {
     Some(buckets.may_have(table.number(Label::Plain(entry))?))
 }
 
+/// Definitions of two entries, one of them with a hash number that another name has.
+const PART: &[(u32, u32)] = &[(0, 10), (4, 14)];
+
+/// Entries, and whether some name may have their numbers before there is any.
+const KNOWN_BEFORE: &[(u32, bool)] = &[(0, false)];
+
+/// Entries, and whether some name may have their numbers once the part is added.
+const KNOWN_AFTER: &[(u32, bool)] = &[(0, true), (1, true), (2, false), (5, false)];
+
+/// Whether it is known of each entry, as wanted, if some name may have its number.
+fn are_known(buckets: &Buckets, table: &Texts, wanted: &[(u32, bool)]) -> bool {
+    for &(entry, want) in wanted {
+        if may_have(buckets, table, entry) != Some(want) {
+            return false;
+        }
+    }
+    true
+}
+
+/// Whether it is known as wanted, before and after the part is added.
+fn known_in<R: Threads + Sync>(
+    rt: &R,
+    alloc: Global,
+    count: usize,
+) -> Result<(bool, bool), AllocError>
+    requires { 0 < count }
+{
+    let table = make_table(alloc)?;
+    let mut buckets = Buckets::new(alloc, count)?;
+    let before = are_known(&buckets, &table, KNOWN_BEFORE);
+    add_definitions(rt, alloc, &mut buckets, &table, PART)?;
+    Ok((before, are_known(&buckets, &table, KNOWN_AFTER)))
+}
+
 #[test]
 fn numbers_are_known_once_a_name_has_them(rt: HostRuntime) -> Result<(), Fail> {
-    let table = make_table(rt.alloc())?;
     for &count in COUNTS {
-        let mut buckets = Buckets::new(rt.alloc(), count.max(1))?;
-        assert_eq!(rt; may_have(&buckets, &table, 0), Some(false));
-        let part = definitions(rt.alloc(), &table, &[(0, 10), (4, 14)])?;
-        buckets.apply(&rt, &table, &[part.as_slice()])?;
-        assert_eq!(rt; may_have(&buckets, &table, 0), Some(true));
-        assert_eq!(rt; may_have(&buckets, &table, 1), Some(true));
-        assert_eq!(rt; may_have(&buckets, &table, 2), Some(false));
-        assert_eq!(rt; may_have(&buckets, &table, 5), Some(false));
+        let (before, after) = known_in(&rt, rt.alloc(), count.max(1))?;
+        assert!(rt; before, "before, in {count} buckets");
+        assert!(rt; after, "after, in {count} buckets");
     }
     Ok(())
 }
@@ -291,10 +444,7 @@ fn many_definitions(alloc: Global, table: &Texts) -> Result<Vec<Definition>, All
 {
     let mut definitions = Vec::new(alloc);
     for id in 0..8 * ROUNDS {
-        let label = Label::Plain(id % 8);
-        if let Some(hash) = table.number(label) {
-            definitions.push(Definition { hash, label, id })?;
-        }
+        define(&mut definitions, table, id % 8, id)?;
     }
     Ok(definitions)
 }
@@ -305,7 +455,7 @@ fn ends(buckets: &Buckets, table: &Texts, entry: usize) -> Option<(usize, u32, u
 {
     let entry = table.entries.get(entry)?;
     let name = entry.name.as_slice();
-    let version = entry.version.as_ref().map(|version| version.as_slice());
+    let version = version_of(entry);
     let definitions = buckets.definitions(table, key_hash(name, version), name, version)?;
     let later = definitions.later();
     Some((later.len(), definitions.first(), *later.last()?))
@@ -327,15 +477,42 @@ fn many_added<R: Threads + Sync>(
     Ok(buckets)
 }
 
+/// Entries, and how many definitions their names have, with the first and the last of them.
+const ENDS: &[(usize, (usize, u32, u32))] = &[
+    (0, (3999, 0, 7999)),
+    (1, (1999, 1, 7993)),
+    (6, (1999, 6, 7998)),
+    (7, (3999, 0, 7999)),
+];
+
+/// Whether the names of the entries have the wanted definitions.
+fn have_ends(buckets: &Buckets, table: &Texts) -> bool
+    requires { AreKeyed (⟦<Texts as Names>⟧.key_at table.now) buckets.now }
+{
+    for &(entry, want) in ENDS {
+        if ends(buckets, table, entry) != Some(want) {
+            return false;
+        }
+    }
+    true
+}
+
+/// Whether many definitions in so many buckets are as wanted.
+fn share_in<R: Threads + Sync>(rt: &R, alloc: Global, count: usize) -> Result<bool, AllocError>
+    requires { 0 < count }
+{
+    let table = make_table(alloc)?;
+    let buckets = many_added(rt, alloc, &table, count)?;
+    Ok(have_ends(&buckets, &table))
+}
+
 #[test]
 fn threads_share_many_definitions(rt: HostRuntime) -> Result<(), Fail> {
-    let table = make_table(rt.alloc())?;
     for &count in COUNTS {
-        let buckets = many_added(&rt, rt.alloc(), &table, count.max(1))?;
-        assert_eq!(rt; ends(&buckets, &table, 0), Some((3999, 0, 7999)));
-        assert_eq!(rt; ends(&buckets, &table, 1), Some((1999, 1, 7993)));
-        assert_eq!(rt; ends(&buckets, &table, 6), Some((1999, 6, 7998)));
-        assert_eq!(rt; ends(&buckets, &table, 7), Some((3999, 0, 7999)));
+        assert!(rt;
+            share_in(&rt, rt.alloc(), count.max(1))?,
+            "in {count} buckets"
+        );
     }
     Ok(())
 }
@@ -370,7 +547,7 @@ fn called(
         return Ok(());
     };
     let name = entry.name.as_slice();
-    let version = entry.version.as_ref().map(|version| version.as_slice());
+    let version = version_of(entry);
     match call {
         Call::Add => buckets.add(table, hash, label, id)?,
         Call::Override => {
@@ -416,6 +593,19 @@ const CALLS: &[(Call, u32, u32, &str)] = &[
     (Call::Add, 0, 60, "60 > 60"),
 ];
 
+/// Whether this is shown of an entry's name.
+fn has_text(
+    alloc: Global,
+    buckets: &Buckets,
+    table: &Texts,
+    entry: u32,
+    want: &str,
+) -> Result<bool, AllocError>
+    requires { AreKeyed (⟦<Texts as Names>⟧.key_at table.now) buckets.now }
+{
+    Ok(shown(alloc, buckets, table, entry as usize)?.as_str() == want)
+}
+
 #[test]
 fn calls_change_one_name(rt: HostRuntime) -> Result<(), Fail> {
     let alloc = rt.alloc();
@@ -423,8 +613,10 @@ fn calls_change_one_name(rt: HostRuntime) -> Result<(), Fail> {
     let mut buckets = Buckets::new(alloc, 2)?;
     for &(call, entry, id, want) in CALLS {
         called(&mut buckets, &table, call, entry, id)?;
-        let text = shown(alloc, &buckets, &table, entry as usize)?;
-        assert_eq!(rt; text.as_str(), want);
+        assert!(rt;
+            has_text(alloc, &buckets, &table, entry, want)?,
+            "not {want}"
+        );
     }
     Ok(())
 }
