@@ -1,30 +1,57 @@
 //! What no clause says: that the set comes where memory is ample.
 
-use link_closure::{Edge, least_closed};
+ghost use Rattle.std.specs.Prelude.{length};
+ghost use Rattle.link_closure.specs.Graph.{AreInRange};
 
-#[test]
-fn a_chain_a_ring_and_an_island(rt: HostRuntime) {
-    let alloc = rt.alloc();
-    let edges = [
+use link_closure::{Edge, least_closed};
+use std::alloc::Global;
+
+/// The marks that are given and those of the least closed set, for the edges of `a_chain_a_ring_and_an_island`.
+const MARKED: &[(&[bool], &[bool])] = &[
+    (
+        &[true, false, false, false, false],
+        &[true, true, true, false, false],
+    ),
+    (
+        &[false, false, false, false, false],
+        &[false, false, false, false, false],
+    ),
+    (
+        &[false, false, false, true, false],
+        &[true, true, true, true, true],
+    ),
+];
+
+/// A chain into a ring, and a number that leads to the chain and to an island.
+fn edges() -> [Edge; 6]
+    ensures { AreInRange 5 result }
+{
+    [
         Edge { from: 0, to: 1 },
         Edge { from: 1, to: 2 },
         Edge { from: 2, to: 1 },
         Edge { from: 3, to: 0 },
         Edge { from: 3, to: 4 },
         Edge { from: 2, to: 1 },
-    ];
-    let of_first = least_closed(alloc, &[true, false, false, false, false], &edges);
-    assert!(rt;
-        matches!(&of_first, Ok(marks) if marks.as_slice() == [true, true, true, false, false].as_slice())
-    );
-    let of_none = least_closed(alloc, &[false, false, false, false, false], &edges);
-    assert!(rt;
-        matches!(&of_none, Ok(marks) if marks.as_slice() == [false, false, false, false, false].as_slice())
-    );
-    let of_fourth = least_closed(alloc, &[false, false, false, true, false], &edges);
-    assert!(rt;
-        matches!(&of_fourth, Ok(marks) if marks.as_slice() == [true, true, true, true, true].as_slice())
-    );
-    let empty = least_closed(alloc, &[], &[]);
-    assert!(rt; matches!(&empty, Ok(marks) if marks.is_empty()));
+    ]
+}
+
+/// Whether the least closed set comes, and is the one that is wanted.
+fn is_least(alloc: Global, roots: &[bool], edges: &[Edge], want: &[bool]) -> bool
+    requires { AreInRange (length roots.now) edges.now }
+{
+    match least_closed(alloc, roots, edges) {
+        Ok(marks) => marks.as_slice() == want,
+        Err(_) => false,
+    }
+}
+
+#[test]
+fn a_chain_a_ring_and_an_island(rt: HostRuntime) {
+    let alloc = rt.alloc();
+    let edges = edges();
+    for &(roots, want) in MARKED {
+        assert!(rt; roots.len() == 5 && is_least(alloc, roots, &edges, want));
+    }
+    assert!(rt; is_least(alloc, &[], &[], &[]));
 }

@@ -1,29 +1,17 @@
 //! Tests of what no contract says.
 
-ghost use Rattle.std.specs.Prelude.{◌≡◌, ◌<◌, length};
-ghost use Rattle.link_flags.specs.FlagWords.{bits_at};
+ghost use Rattle.std.specs.Prelude.{◌≡◌, ◌<◌, IfOk, length};
+ghost use Rattle.link_flags.specs.FlagWords.{bits_at, words_of};
 
+use crate::fixtures::shows;
 use bitflags::Flags;
 use link_flags::{
     FlagsForSymbol, PerSymbolFlags, SymbolPrioritySelector, SymbolStrength, ValueFlags, Visibility,
 };
 use link_ids::{SymbolId, SymbolIdRange};
 use link_names::hash_agrees_with_eq;
-use std::alloc::Global;
-use std::fmt;
-use std::process::Abort;
+use std::alloc::{AllocError, Global};
 use std::test::Fail;
-
-/// The value prints as this text.
-fn shows<D: fmt::Display>(
-    rt: &impl Abort,
-    alloc: Global,
-    value: &D,
-    want: &str,
-) -> Result<(), Fail> {
-    assert_eq!(rt; format!(in alloc; "{value}")?.as_str(), want);
-    Ok(())
-}
 
 #[test]
 fn flags_and_visibilities_compare(rt: HostRuntime) {
@@ -65,14 +53,15 @@ fn flags_have_their_bits_and_names(rt: HostRuntime) -> Result<(), Fail> {
         shows(&rt, rt.alloc(), &ValueFlags::from_bits_truncate(bit), name)?;
         bit = bit.wrapping_mul(2);
     }
-    assert_eq!(rt; ValueFlags::all().bits(), 0x3f_ffff);
-    assert_eq!(rt; ValueFlags::all().resolution_flags().bits(), 0xe_7fc0);
-    shows(
-        &rt,
-        rt.alloc(),
-        &(ValueFlags::ABSOLUTE | ValueFlags::NON_INTERPOSABLE),
-        "ABSOLUTE | NON_INTERPOSABLE",
-    )?;
+    let all = ValueFlags::all();
+    assert!(rt; all.bits() == 0x3f_ffff && all.resolution_flags().bits() == 0xe_7fc0);
+    Ok(())
+}
+
+#[test]
+fn sets_of_flags_are_shown(rt: HostRuntime) -> Result<(), Fail> {
+    let two = ValueFlags::ABSOLUTE | ValueFlags::NON_INTERPOSABLE;
+    shows(&rt, rt.alloc(), &two, "ABSOLUTE | NON_INTERPOSABLE")?;
     shows(&rt, rt.alloc(), &ValueFlags::empty(), "")
 }
 
@@ -84,56 +73,79 @@ fn flags_of<F: FlagsForSymbol>(flags: &F, symbol: SymbolId) -> ValueFlags
     flags.flags_for_symbol(symbol)
 }
 
-#[test]
-fn each_symbol_has_a_word(rt: HostRuntime) -> Result<(), Fail> {
-    let mut flags = PerSymbolFlags::new(rt.alloc());
+/// The words of two symbols.
+fn two_words(alloc: Global) -> Result<PerSymbolFlags, AllocError>
+    ensures { IfOk result (λ flags. length (words_of flags) ≡ 2) }
+{
+    let mut flags = PerSymbolFlags::new(alloc);
     flags.reserve(2)?;
     flags.push(ValueFlags::DYNAMIC)?;
     flags.push(ValueFlags::IFUNC)?;
-    assert_eq!(rt; flags.len(), 2);
+    Ok(flags)
+}
+
+/// Whether the words of the two symbols are these, in each way to read them.
+fn words_are(flags: &PerSymbolFlags, first: ValueFlags, second: ValueFlags) -> bool
+    requires { length (words_of flags.now) ≡ 2 }
+{
+    let read = flags.len() == 2
+        && flags_of(flags, SymbolId::zero()) == first
+        && flags_of(flags, SymbolId::from_usize(1)) == second;
+    match flags.raw_range(SymbolIdRange::prelude(2)) {
+        [one, other] => read && *one == first.raw() && *other == second.raw(),
+        _ => false,
+    }
+}
+
+#[test]
+fn each_symbol_has_a_word(rt: HostRuntime) -> Result<(), Fail> {
+    let mut flags = two_words(rt.alloc())?;
+    let second = ValueFlags::IFUNC | ValueFlags::GOT;
     flags.set_flag(SymbolId::from_usize(1), ValueFlags::GOT);
-    assert_eq!(rt; flags_of(&flags, SymbolId::zero()), ValueFlags::DYNAMIC);
-    assert_eq!(rt;
-        flags_of(&flags, SymbolId::from_usize(1)),
-        ValueFlags::IFUNC | ValueFlags::GOT
-    );
+    let set = words_are(&flags, ValueFlags::DYNAMIC, second);
     flags.flags_mut().reverse();
-    assert_eq!(rt; flags.len(), 2);
-    assert_eq!(rt;
-        flags.raw_range(SymbolIdRange::prelude(2)),
-        [
-            (ValueFlags::IFUNC | ValueFlags::GOT).raw(),
-            ValueFlags::DYNAMIC.raw()
-        ]
-        .as_slice()
-    );
+    let reversed = words_are(&flags, second, ValueFlags::DYNAMIC);
+    drop(flags);
+    assert!(rt; set && reversed);
     Ok(())
+}
+
+/// The answers of a selector: the definition that counts where weak ones stand behind tentative ones, the one where they stand before
+/// them, and the first strong one.
+type Answers = (Option<u32>, Option<u32>, Option<u32>);
+
+/// Symbols with their strengths, and what is answered once they were considered.
+const CONSIDERED: &[(u32, SymbolStrength, Answers)] = &[
+    (5, SymbolStrength::Weak, (Some(5), Some(5), None)),
+    (7, SymbolStrength::Common(4), (Some(7), Some(5), None)),
+    (9, SymbolStrength::Common(8), (Some(9), Some(5), None)),
+    (10, SymbolStrength::Common(8), (Some(9), Some(5), None)),
+    (11, SymbolStrength::Strong, (Some(11), Some(11), Some(11))),
+    (12, SymbolStrength::Strong, (Some(11), Some(11), Some(11))),
+];
+
+/// Whether the symbol of this number is found, or none where none is wanted.
+fn is_found(found: Option<SymbolId>, want: Option<u32>) -> bool {
+    match (found, want) {
+        (Some(id), Some(number)) => id.as_usize() == number as usize,
+        (None, None) => true,
+        _ => false,
+    }
+}
+
+/// Whether a selector answers so.
+fn is_answered(selector: &SymbolPrioritySelector, want: Answers) -> bool {
+    is_found(selector.best(false), want.0)
+        && is_found(selector.best(true), want.1)
+        && is_found(selector.first_strong(), want.2)
 }
 
 #[test]
 fn the_definition_that_counts_is_picked(rt: HostRuntime) {
-    let weak = (5, SymbolStrength::Weak);
-    let commons = [
-        (7, SymbolStrength::Common(4)),
-        (9, SymbolStrength::Common(8)),
-        (10, SymbolStrength::Common(8)),
-    ];
     let mut selector = SymbolPrioritySelector::new();
-    assert_eq!(rt; selector.best(false), None);
-    selector.consider(SymbolId::from_usize(weak.0), weak.1);
-    for (id, strength) in commons {
-        selector.consider(SymbolId::from_usize(id), strength);
+    assert!(rt; is_answered(&selector, (None, None, None)));
+    for &(number, strength, want) in CONSIDERED {
+        selector.consider(SymbolId::from_usize(number as usize), strength);
+        assert!(rt; is_answered(&selector, want), "after {number}");
     }
-    assert_eq!(rt; selector.best(false), Some(SymbolId::from_usize(9)));
-    assert_eq!(rt; selector.best(true), Some(SymbolId::from_usize(5)));
-    assert_eq!(rt; selector.first_strong(), None);
-    selector.consider(SymbolId::from_usize(11), SymbolStrength::Strong);
-    selector.consider(SymbolId::from_usize(12), SymbolStrength::Strong);
-    for weak_over_common in [false, true] {
-        assert_eq!(rt;
-            selector.best(weak_over_common),
-            Some(SymbolId::from_usize(11))
-        );
-    }
-    assert_eq!(rt; selector.first_strong(), Some(SymbolId::from_usize(11)));
 }

@@ -2,58 +2,34 @@
 
 ghost use Rattle.std.specs.Prelude.{◌≤◌};
 
-use link_flags::Visibility;
+use crate::fixtures::{object, symbol};
 use link_ids::{FileId, SymbolIdRange};
 use link_input::{
-    InputObject, Inputs, MachLike, Modifiers, ObjectTable, Options, ParsedInputObject, Place,
-    Platform, ProcessedLinkerScript, StubLibrary, SymbolBinding, SymbolEntry, SymbolKind,
+    Inputs, MachLike, ObjectTable, Options, ParsedInputObject, Place, Platform,
+    ProcessedLinkerScript, StubLibrary, SymbolBinding,
 };
 use link_input_groups::{Group, GroupsError, SyntheticSymbols, create_groups};
 use link_names::{Name, Seq};
-use std::alloc::Global;
+use std::alloc::{AllocError, Global};
 use std::test::Fail;
 
-/// An object with so many symbols and sections.
-fn object(
-    alloc: Global,
-    name: &[u8],
-    symbols: usize,
-    sections: u32,
-) -> Result<ParsedInputObject<MachLike>, Fail> {
+/// The tables of an object with so many symbols and sections.
+fn table(alloc: Global, symbols: usize, sections: u32) -> Result<ObjectTable, AllocError> {
     let mut entries = Seq::new(alloc);
     for _ in 0..symbols {
-        entries.push(SymbolEntry {
-            name: Name::from_slice(alloc, b"foo")?,
-            version: None,
-            is_default: true,
-            binding: SymbolBinding::Global,
-            visibility: Visibility::Default,
-            kind: SymbolKind::Plain,
-            size: 0,
-            place: Place::Absolute,
-        })?;
+        entries.push(symbol(alloc, b"foo", SymbolBinding::Global, Place::Absolute)?)?;
     }
-    let table = ObjectTable {
+    Ok(ObjectTable {
         is_dynamic: false,
         lib_name: Name::from_slice(alloc, b"")?,
         sections,
         symbols: entries,
         groups: Seq::new(alloc),
-    };
-    let modifiers = Modifiers {
-        archive: false,
-        whole_archive: false,
-        as_needed: false,
-    };
-    Ok(ParsedInputObject::new(
-        Name::from_slice(alloc, name)?,
-        InputObject::new(alloc, table)?,
-        modifiers,
-    ))
+    })
 }
 
 /// A linker script without symbols.
-fn script(alloc: Global) -> Result<ProcessedLinkerScript, Fail> {
+fn script(alloc: Global) -> Result<ProcessedLinkerScript, AllocError> {
     Ok(ProcessedLinkerScript {
         input: Name::from_slice(alloc, b"x.ld")?,
         entry: None,
@@ -62,26 +38,47 @@ fn script(alloc: Global) -> Result<ProcessedLinkerScript, Fail> {
     })
 }
 
+/// One name.
+fn names(alloc: Global, name: &[u8]) -> Result<Seq<Name>, AllocError> {
+    let mut names = Seq::new(alloc);
+    names.push(Name::from_slice(alloc, name)?)?;
+    Ok(names)
+}
+
 /// A stub library with a strong symbol and a weak one.
-fn stub(alloc: Global) -> Result<StubLibrary, Fail> {
-    let mut strong = Seq::new(alloc);
-    strong.push(Name::from_slice(alloc, b"open")?)?;
-    let mut weak = Seq::new(alloc);
-    weak.push(Name::from_slice(alloc, b"close")?)?;
+fn stub(alloc: Global) -> Result<StubLibrary, AllocError> {
     Ok(StubLibrary {
         input: Name::from_slice(alloc, b"libS.tbd")?,
-        strong,
-        weak,
+        strong: names(alloc, b"open")?,
+        weak: names(alloc, b"close")?,
     })
 }
 
-/// Inputs of these objects alone.
-fn inputs_of(alloc: Global, objects: Vec<ParsedInputObject<MachLike>>) -> Inputs<MachLike> {
-    Inputs {
-        objects: Seq::from_vec(objects),
+/// Inputs of this object alone.
+fn inputs_of(
+    alloc: Global,
+    object: ParsedInputObject<MachLike>,
+) -> Result<Inputs<MachLike>, AllocError> {
+    let mut objects = Seq::new(alloc);
+    objects.push(object)?;
+    Ok(Inputs {
+        objects,
         scripts: Seq::new(alloc),
         stubs: Seq::new(alloc),
-    }
+    })
+}
+
+/// An object, a linker script and a stub library.
+fn first_batch(alloc: Global) -> Result<Inputs<MachLike>, Fail> {
+    let mut inputs = inputs_of(alloc, object(alloc, b"a.o", table(alloc, 2, 3)?)?)?;
+    inputs.scripts.push(script(alloc)?)?;
+    inputs.stubs.push(stub(alloc)?)?;
+    Ok(inputs)
+}
+
+/// Another object.
+fn second_batch(alloc: Global) -> Result<Inputs<MachLike>, Fail> {
+    Ok(inputs_of(alloc, object(alloc, b"b.o", table(alloc, 4, 1)?)?)?)
 }
 
 /// The groups of a first batch, and those of a second one.
@@ -99,48 +96,68 @@ fn grouped_twice(
     Ok((groups, more))
 }
 
-/// What groups show, and then their files.
-fn texts<P: Platform>(alloc: Global, groups: &[Group<P>]) -> Result<String, Fail> {
+/// What the groups show.
+fn texts<P: Platform>(alloc: Global, groups: &[Group<P>]) -> Result<String, AllocError> {
     let mut text = String::new(alloc);
-    let mut files = String::new(alloc);
     for group in groups {
         text.push_str(format!(in alloc; "{group};")?.as_str())?;
+    }
+    Ok(text)
+}
+
+/// What the files of the groups show.
+fn texts_of_files<P: Platform>(alloc: Global, groups: &[Group<P>]) -> Result<String, AllocError> {
+    let mut text = String::new(alloc);
+    for group in groups {
         for place in 0..group.num_files() {
             let file = group.file(place);
-            files.push_str(format!(in alloc; "{file};")?.as_str())?;
+            text.push_str(format!(in alloc; "{file};")?.as_str())?;
         }
     }
-    Ok(format!(in alloc; "{text} {files}")?)
+    Ok(text)
 }
 
-/// An object, a linker script and a stub library, and then another object.
-fn two_batches(alloc: Global) -> Result<(Inputs<MachLike>, Inputs<MachLike>), Fail> {
-    let mut objects = Vec::new(alloc);
-    objects.push(object(alloc, b"a.o", 2, 3)?)?;
-    let mut first = inputs_of(alloc, objects);
-    first.scripts.push(script(alloc)?)?;
-    first.stubs.push(stub(alloc)?)?;
-    let mut objects = Vec::new(alloc);
-    objects.push(object(alloc, b"b.o", 4, 1)?)?;
-    Ok((first, inputs_of(alloc, objects)))
+/// Whether groups and their files show these texts.
+fn show<P: Platform>(
+    alloc: Global,
+    groups: &[Group<P>],
+    want: &str,
+    want_of_files: &str,
+) -> Result<bool, AllocError> {
+    let is_shown = texts(alloc, groups)?.as_str() == want;
+    let are_shown = texts_of_files(alloc, groups)?.as_str() == want_of_files;
+    Ok(is_shown && are_shown)
 }
 
-#[test]
-fn groups_and_files_are_shown(rt: HostRuntime) -> Result<(), Fail> {
-    let alloc = rt.alloc();
-    let (first, second) = two_batches(alloc)?;
-    let options = Options::new(alloc);
-    let (groups, mut more) = grouped_twice(alloc, &options, first, second)?;
+/// The groups of the two batches, behind the second of which stands one for symbols of the linker's own.
+fn grouped(alloc: Global) -> Result<(Vec<Group<MachLike>>, Vec<Group<MachLike>>), Fail> {
+    let first = first_batch(alloc)?;
+    let second = second_batch(alloc)?;
+    let (groups, mut more) = grouped_twice(alloc, &Options::new(alloc), first, second)?;
     more.push(Group::SyntheticSymbols(SyntheticSymbols {
         file_id: FileId::new(5, 0),
         symbol_id_range: SymbolIdRange::empty(),
     }))?;
-    let before = texts(alloc, groups.as_slice())?;
-    let after = texts(alloc, more.as_slice())?;
-    assert!(rt;
-        before.as_str()
-            == "<prelude>;num_objects: 1 num_symbols: 2;1 linker script(s);1 Mach-O stub library(s); <prelude>;a.o;x.ld;libS.tbd;"
-            && after.as_str() == "num_objects: 1 num_symbols: 4;<epilogue>; b.o;<epilogue>;"
+    Ok((groups, more))
+}
+
+#[test]
+fn groups_and_files_are_shown(rt: HostRuntime) -> Result<(), Fail> {
+    let (groups, more) = grouped(rt.alloc())?;
+    let first = show(
+        rt.alloc(),
+        groups.as_slice(),
+        "<prelude>;num_objects: 1 num_symbols: 2;1 linker script(s);1 Mach-O stub library(s);",
+        "<prelude>;a.o;x.ld;libS.tbd;",
     );
+    drop(groups);
+    let second = show(
+        rt.alloc(),
+        more.as_slice(),
+        "num_objects: 1 num_symbols: 4;<epilogue>;",
+        "b.o;<epilogue>;",
+    );
+    drop(more);
+    assert!(rt; first? && second?);
     Ok(())
 }

@@ -7,6 +7,8 @@ mod closure;
 #[cfg(test)]
 mod comdat;
 #[cfg(test)]
+mod fixtures;
+#[cfg(test)]
 mod flags;
 #[cfg(test)]
 mod groups;

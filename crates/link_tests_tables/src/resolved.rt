@@ -2,66 +2,70 @@
 
 ghost use Rattle.std.specs.Prelude.{◌≤◌};
 
+use crate::fixtures::object;
 use link_ids::{FileId, SymbolId, SymbolIdRange};
 use link_input::{
-    ElfLike, InputObject, Inputs, Modifiers, ObjectTable, Options, ParsedInputObject, Platform,
-    ProcessedLinkerScript, StubLibrary,
+    ElfLike, Inputs, ObjectTable, Options, ParsedInputObject, Platform, ProcessedLinkerScript,
+    StubLibrary,
 };
 use link_input_groups::{Group, GroupsError, SyntheticSymbols, create_groups};
 use link_names::{Name, PreHashedSymbolName, Seq};
 use link_resolve_discarded::LoadedGroups;
 use link_resolve_files::{ResolvedGroup, UndefinedSymbol, resolved_groups};
-use std::alloc::Global;
+use std::alloc::{AllocError, Global};
 use std::test::Fail;
 
-/// An object of this name without symbols.
-fn object(
-    alloc: Global,
-    name: &[u8],
-    is_dynamic: bool,
-) -> Result<ParsedInputObject<ElfLike>, Fail> {
-    let table = ObjectTable {
+/// The tables of an object without symbols.
+fn table(alloc: Global, is_dynamic: bool) -> Result<ObjectTable, AllocError> {
+    Ok(ObjectTable {
         is_dynamic,
         lib_name: Name::from_slice(alloc, b"")?,
         sections: 1,
         symbols: Seq::new(alloc),
         groups: Seq::new(alloc),
-    };
-    let modifiers = Modifiers {
-        archive: false,
-        whole_archive: false,
-        as_needed: false,
-    };
-    Ok(ParsedInputObject::new(
-        Name::from_slice(alloc, name)?,
-        InputObject::new(alloc, table)?,
-        modifiers,
-    ))
+    })
 }
 
-/// Two regular objects, a shared one, a linker script and a stub library.
-fn inputs(alloc: Global) -> Result<Inputs<ElfLike>, Fail> {
+/// Two regular objects and a shared one.
+fn objects(alloc: Global) -> Result<Seq<ParsedInputObject<ElfLike>>, Fail> {
     let mut objects = Seq::new(alloc);
-    objects.push(object(alloc, b"a.o", false)?)?;
-    objects.push(object(alloc, b"b.o", false)?)?;
-    objects.push(object(alloc, b"c.so", true)?)?;
+    objects.push(object(alloc, b"a.o", table(alloc, false)?)?)?;
+    objects.push(object(alloc, b"b.o", table(alloc, false)?)?)?;
+    objects.push(object(alloc, b"c.so", table(alloc, true)?)?)?;
+    Ok(objects)
+}
+
+/// A linker script.
+fn scripts(alloc: Global) -> Result<Seq<ProcessedLinkerScript>, AllocError> {
+    let input = Name::from_slice(alloc, b"x.ld")?;
     let mut scripts = Seq::new(alloc);
     scripts.push(ProcessedLinkerScript {
-        input: Name::from_slice(alloc, b"x.ld")?,
+        input,
         entry: None,
         version: None,
         symbol_defs: Seq::new(alloc),
     })?;
+    Ok(scripts)
+}
+
+/// A stub library.
+fn stubs(alloc: Global) -> Result<Seq<StubLibrary>, AllocError> {
+    let input = Name::from_slice(alloc, b"libS.tbd")?;
     let mut stubs = Seq::new(alloc);
     stubs.push(StubLibrary {
-        input: Name::from_slice(alloc, b"libS.tbd")?,
+        input,
         strong: Seq::new(alloc),
         weak: Seq::new(alloc),
     })?;
+    Ok(stubs)
+}
+
+/// Two regular objects, a shared one, a linker script and a stub library.
+fn inputs(alloc: Global) -> Result<Inputs<ElfLike>, Fail> {
     Ok(Inputs {
-        objects,
-        scripts,
-        stubs,
+        objects: objects(alloc)?,
+        scripts: scripts(alloc)?,
+        stubs: stubs(alloc)?,
     })
 }
 
@@ -96,23 +100,47 @@ fn reference(alloc: Global, file: FileId) -> Result<UndefinedSymbol, Fail> {
     })
 }
 
-#[test]
-fn files_are_shown(rt: HostRuntime) -> Result<(), Fail> {
-    let alloc = rt.alloc();
-    let options = Options::new(alloc);
-    let mut groups = grouped(alloc, &options, inputs(alloc)?)?;
+/// The groups of all inputs, and one for symbols of the linker's own.
+fn all_groups(alloc: Global) -> Result<Vec<Group<ElfLike>>, Fail> {
+    let inputs = inputs(alloc)?;
+    let mut groups = grouped(alloc, &Options::new(alloc), inputs)?;
     groups.push(Group::SyntheticSymbols(SyntheticSymbols {
         file_id: FileId::new(4, 0),
         symbol_id_range: SymbolIdRange::empty(),
     }))?;
-    let loaded = [true, false, true];
-    let kept = LoadedGroups::select(alloc, groups.as_slice(), &loaded)?;
-    let resolved = resolved_groups(alloc, groups.as_slice(), &loaded, &kept)?;
-    let text = texts(alloc, resolved.as_slice())?;
+    Ok(groups)
+}
+
+/// Whether resolved files show this text, and a reference that `b.o` may define is not ignored.
+fn show(alloc: Global, resolved: &[ResolvedGroup<'_, ElfLike>], want: &str) -> Result<bool, Fail> {
+    let text = texts(alloc, resolved)?;
     let undefined = reference(alloc, FileId::new(1, 1))?;
-    assert!(rt;
-        text.as_str() == "<prelude>;a.o;<not loaded>;c.so;x.ld;libS.tbd;<synthetic>;"
-            && !undefined.is_ignored(resolved.as_slice())
+    Ok(text.as_str() == want && !undefined.is_ignored(resolved))
+}
+
+/// Whether that is so of the files of these groups, where these objects are loaded.
+fn show_once_resolved(
+    alloc: Global,
+    groups: &[Group<ElfLike>],
+    loaded: &[bool],
+    want: &str,
+) -> Result<bool, Fail> {
+    let kept = LoadedGroups::select(alloc, groups, loaded)?;
+    let resolved = resolved_groups(alloc, groups, loaded, &kept)?;
+    show(alloc, resolved.as_slice(), want)
+}
+
+#[test]
+fn files_are_shown(rt: HostRuntime) -> Result<(), Fail> {
+    let groups = all_groups(rt.alloc())?;
+    let shown = show_once_resolved(
+        rt.alloc(),
+        groups.as_slice(),
+        &[true, false, true],
+        "<prelude>;a.o;<not loaded>;c.so;x.ld;libS.tbd;<synthetic>;",
     );
+    drop(groups);
+    let shown = shown?;
+    assert!(rt; shown);
     Ok(())
 }

@@ -5,11 +5,10 @@ ghost use Rattle.link_flags.specs.FlagWords.{words_of};
 
 use bitflags::Flags;
 use link_flags::SymbolStrength::{Common, GnuUnique, Strong, Undefined, Weak};
-use link_flags::{PerSymbolFlags, SymbolStrength, ValueFlags, Visibility};
+use link_flags::{PerSymbolFlags, RawFlags, SymbolStrength, ValueFlags, Visibility};
 use link_ids::{SymbolId, SymbolIdRange};
 use link_resolve_rivals::{RivalLists, Survivors, narrow, settle};
 use std::alloc::{AllocError, Global};
-use std::process::Abort;
 use std::test::Fail;
 
 /// How strongly a rival binds, whether a shared file gives it, and whether a loaded regular object holds it.
@@ -89,8 +88,8 @@ fn expected_clash(rivals: &[Rival]) -> Option<(usize, usize)> {
     None
 }
 
-/// The rivals at these places, three or the first two, are settled as the model says.
-fn agrees(rt: &impl Abort, rivals: [Rival; 3], count: usize, weak_overrides_common: bool)
+/// Whether these rivals, three or the first two, are settled as the model says.
+fn agrees(rivals: [Rival; 3], count: usize, weak_overrides_common: bool) -> bool
     requires { count ≤ 3 }
 {
     let [a, b, c] = rivals;
@@ -110,23 +109,28 @@ fn agrees(rt: &impl Abort, rivals: [Rival; 3], count: usize, weak_overrides_comm
     let clash = survivors
         .clash(&ids[..count])
         .map(|pair| (pair.0.as_usize(), pair.1.as_usize()));
-    assert!(rt;
-        choice == expected_choice(&rivals[..count], weak_overrides_common)
-            && clash == expected_clash(&rivals[..count]),
-        "at {rivals:?}"
-    );
+    choice == expected_choice(&rivals[..count], weak_overrides_common)
+        && clash == expected_clash(&rivals[..count])
+}
+
+/// Whether two rivals are settled as the model says, alone and before each third.
+fn all_agree(a: Rival, b: Rival, weak_overrides_common: bool) -> bool {
+    for &c in RIVALS {
+        if !agrees([a, b, c], 3, weak_overrides_common) {
+            return false;
+        }
+    }
+    agrees([a, b, a], 2, weak_overrides_common)
 }
 
 #[test]
 fn the_definition_that_counts_is_that_of_the_model(rt: HostRuntime) {
     for &a in RIVALS {
         for &b in RIVALS {
-            for weak_overrides_common in [false, true] {
-                agrees(&rt, [a, b, a], 2, weak_overrides_common);
-                for &c in RIVALS {
-                    agrees(&rt, [a, b, c], 3, weak_overrides_common);
-                }
-            }
+            assert!(rt;
+                all_agree(a, b, false) && all_agree(a, b, true),
+                "at {a:?} and {b:?}"
+            );
         }
     }
 }
@@ -167,9 +171,11 @@ fn table() -> [SymbolId; 6]
     ]
 }
 
-#[test]
-fn lists_are_settled(rt: HostRuntime) -> Result<(), Fail> {
-    let mut table = table();
+/// Settles the two lists in a table. How many clashes there are.
+fn settle_two_lists(alloc: Global, table: &mut [SymbolId]) -> Result<usize, AllocError>
+    requires len { length table.old ≡ 6 }
+    requires inside { All (λ t. t < 6) table.old }
+{
     let survivors = Survivors {
         strengths: &[Weak, Strong, Undefined, Weak, Strong, Strong],
         dynamic: &[true, false, false, false, false, false],
@@ -177,16 +183,29 @@ fn lists_are_settled(rt: HostRuntime) -> Result<(), Fail> {
         weak_overrides_common: false,
         allow_multiple: false,
     };
-    let clashes = settle(rt.alloc(), &survivors, &TwoLists, &mut table)?;
-    assert!(rt;
-        table[0].as_usize() == 5
-            && table[1].as_usize() == 1
-            && table[2].as_usize() == 5
-            && table[3].as_usize() == 5
-            && table[4].as_usize() == 4
-            && clashes.len() == 1,
-        "at {table:?} with {clashes:?}"
-    );
+    let clashes = settle(alloc, &survivors, &TwoLists, table)?;
+    Ok(clashes.len())
+}
+
+/// The symbols of the two lists, and to which each of them points once they are settled.
+const SETTLED: &[(usize, usize)] = &[(0, 5), (1, 1), (2, 5), (3, 5), (4, 4)];
+
+/// Whether each symbol of the two lists points where it is to.
+fn is_settled(table: &[SymbolId]) -> bool {
+    for &(symbol, target) in SETTLED {
+        match table.get(symbol) {
+            Some(found) if found.as_usize() == target => {}
+            _ => return false,
+        }
+    }
+    true
+}
+
+#[test]
+fn lists_are_settled(rt: HostRuntime) -> Result<(), Fail> {
+    let mut table = table();
+    let clashes = settle_two_lists(rt.alloc(), &mut table)?;
+    assert!(rt; is_settled(&table) && clashes == 1, "at {table:?}");
     Ok(())
 }
 
@@ -218,18 +237,22 @@ fn narrow_two_lists(flags: &mut PerSymbolFlags)
     narrow(&TwoLists, &visibilities, &dynamic, flags);
 }
 
-#[test]
-fn lists_are_narrowed(rt: HostRuntime) -> Result<(), Fail> {
-    let mut flags = no_flags(rt.alloc())?;
-    narrow_two_lists(&mut flags);
+/// Whether these are the words of the six symbols once the two lists are narrowed.
+fn are_narrowed(words: &[RawFlags]) -> bool {
     let hidden = ValueFlags::NON_INTERPOSABLE
         .union(ValueFlags::DOWNGRADE_TO_LOCAL)
         .raw();
     let protected = ValueFlags::NON_INTERPOSABLE.raw();
     let none = ValueFlags::empty().raw();
-    assert_eq!(rt;
-        flags.raw_range(SymbolIdRange::prelude(6)),
-        [hidden, protected, none, hidden, protected, none].as_slice()
-    );
+    words == [hidden, protected, none, hidden, protected, none].as_slice()
+}
+
+#[test]
+fn lists_are_narrowed(rt: HostRuntime) -> Result<(), Fail> {
+    let mut flags = no_flags(rt.alloc())?;
+    narrow_two_lists(&mut flags);
+    let narrowed = are_narrowed(flags.raw_range(SymbolIdRange::prelude(6)));
+    drop(flags);
+    assert!(rt; narrowed);
     Ok(())
 }

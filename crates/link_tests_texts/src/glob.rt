@@ -1,10 +1,11 @@
 //! That patterns compile where there is enough memory, and what they then fit, in both dialects; the texts of refusals; that fifty stars end.
 
+use crate::names::shows;
 use link_glob::{
     GlobError, GlobList, GlobPatternType, Pattern, analyze_glob_pattern, compile_glob_pattern,
     compile_macho_glob_pattern, unescape_pattern,
 };
-use std::alloc::AllocError;
+use std::alloc::{AllocError, Global};
 use std::test::Fail;
 
 const KINDS: &[(&[u8], GlobPatternType)] = &[
@@ -27,24 +28,49 @@ fn kinds_of_patterns(rt: HostRuntime) {
     }
 }
 
-#[test]
-fn unescaped_patterns(rt: HostRuntime) -> Result<(), Fail> {
-    for (pattern, plain) in [
-        (b"foo\\*bar".as_slice(), b"foo*bar".as_slice()),
-        (b"a\\", b"a\\"),
-        (b"\\\\\\a", b"\\a"),
-        (b"", b""),
-    ] {
-        assert_eq!(rt; unescape_pattern(rt.alloc(), pattern)?.as_slice(), plain);
+const UNESCAPED: &[(&[u8], &[u8])] = &[
+    (b"foo\\*bar", b"foo*bar"),
+    (b"a\\", b"a\\"),
+    (b"\\\\\\a", b"\\a"),
+    (b"", b""),
+];
+
+/// Whether the pattern stands for this text.
+fn is_unescaped(alloc: Global, pattern: &[u8], plain: &[u8]) -> bool {
+    match unescape_pattern(alloc, pattern) {
+        Ok(text) => text.as_slice() == plain,
+        Err(_) => false,
     }
-    Ok(())
 }
 
-fn compile(rt: &HostRuntime, macho: bool, pattern: &[u8]) -> Result<Pattern, GlobError> {
+#[test]
+fn unescaped_patterns(rt: HostRuntime) {
+    for &(pattern, plain) in UNESCAPED {
+        assert!(rt; is_unescaped(rt.alloc(), pattern, plain));
+    }
+}
+
+fn compile(alloc: Global, macho: bool, pattern: &[u8]) -> Result<Pattern, GlobError> {
     if macho {
-        compile_macho_glob_pattern(rt.alloc(), pattern)
+        compile_macho_glob_pattern(alloc, pattern)
     } else {
-        compile_glob_pattern(rt.alloc(), pattern)
+        compile_glob_pattern(alloc, pattern)
+    }
+}
+
+/// Whether the pattern compiles, and fits the name or not as is said.
+fn does_fit(alloc: Global, macho: bool, pattern: &[u8], name: &str, fits: bool) -> bool {
+    match compile(alloc, macho, pattern) {
+        Ok(compiled) => compiled.matches(name) == fits,
+        Err(_) => false,
+    }
+}
+
+/// Whether the pattern is refused so.
+fn is_refused(alloc: Global, macho: bool, pattern: &[u8], fault: GlobError) -> bool {
+    match compile(alloc, macho, pattern) {
+        Ok(_) => false,
+        Err(found) => found == fault,
     }
 }
 
@@ -87,14 +113,13 @@ const FITTED: &[(bool, &[u8], &str, bool)] = &[
 ];
 
 #[test]
-fn names_that_patterns_fit(rt: HostRuntime) -> Result<(), Fail> {
+fn names_that_patterns_fit(rt: HostRuntime) {
     for &(macho, pattern, name, fits) in FITTED {
-        let Ok(compiled) = compile(&rt, macho, pattern) else {
-            return Err("a pattern did not compile".into());
-        };
-        assert_eq!(rt; compiled.matches(name), fits, "{pattern:?} at {name}");
+        assert!(rt;
+            does_fit(rt.alloc(), macho, pattern, name, fits),
+            "{pattern:?}"
+        );
     }
-    Ok(())
 }
 
 const REFUSED: &[(bool, &[u8], GlobError)] = &[
@@ -111,14 +136,14 @@ const REFUSED: &[(bool, &[u8], GlobError)] = &[
 fn refused_patterns(rt: HostRuntime) {
     for &(macho, pattern, fault) in REFUSED {
         assert!(rt;
-            matches!(compile(&rt, macho, pattern), Err(e) if e == fault),
+            is_refused(rt.alloc(), macho, pattern, fault),
             "{pattern:?}"
         );
     }
 }
 
-fn repeated(rt: &HostRuntime, piece: &[u8], n: usize, last: &[u8]) -> Result<Vec<u8>, AllocError> {
-    let mut bytes = Vec::new(rt.alloc());
+fn repeated(alloc: Global, piece: &[u8], n: usize, last: &[u8]) -> Result<Vec<u8>, AllocError> {
+    let mut bytes = Vec::new(alloc);
     for _ in 0..n {
         bytes.extend_from_slice(piece)?;
     }
@@ -126,30 +151,56 @@ fn repeated(rt: &HostRuntime, piece: &[u8], n: usize, last: &[u8]) -> Result<Vec
     Ok(bytes)
 }
 
+/// What stands behind fifty stars, and whether the pattern then fits a name of the letter `a`.
+const LAST: &[(&[u8], bool)] = &[(b"a", true), (b"b", false), (b"*", true)];
+
+/// Whether fifty stars and what stands behind them fit the name or not as is said.
+fn do_fifty_stars_fit(
+    alloc: Global,
+    last: &[u8],
+    name: &[u8],
+    fits: bool,
+) -> Result<bool, AllocError> {
+    let pattern = repeated(alloc, b"*a", 50, last)?;
+    match str::from_utf8(name) {
+        Ok(name) => Ok(does_fit(alloc, false, &pattern, name, fits)),
+        Err(_) => Ok(false),
+    }
+}
+
+/// Whether that is so of each row of `LAST`.
+fn do_all_fit(alloc: Global, name: &[u8]) -> Result<bool, AllocError> {
+    for &(last, fits) in LAST {
+        if !do_fifty_stars_fit(alloc, last, name, fits)? {
+            return Ok(false);
+        }
+    }
+    Ok(true)
+}
+
 /// A body that tried every length for every star would not end here.
 #[test]
 fn fifty_stars_end_at_once(rt: HostRuntime) -> Result<(), Fail> {
-    let name = repeated(&rt, b"a", 10_000, b"")?;
-    let name = str::from_utf8(&name).map_err(|_| "not UTF-8")?;
-    for (last, fits) in [(b"a".as_slice(), true), (b"b", false), (b"*", true)] {
-        let pattern = repeated(&rt, b"*a", 50, last)?;
-        let compiled = compile(&rt, false, &pattern).map_err(|_| "fifty stars")?;
-        assert_eq!(rt; compiled.matches(name), fits);
-    }
+    let name = repeated(rt.alloc(), b"a", 10_000, b"")?;
+    let all = do_all_fit(rt.alloc(), &name);
+    drop(name);
+    assert!(rt; all?);
     Ok(())
 }
 
+const FAULTS: &[(GlobError, &str)] = &[
+    (GlobError::InvalidUtf8, "the pattern is not UTF-8"),
+    (
+        GlobError::InvalidGlob,
+        "the pattern has an unclosed class or adjacent stars",
+    ),
+    (GlobError::Memory, "out of memory"),
+];
+
 #[test]
 fn texts_of_refusals(rt: HostRuntime) -> Result<(), Fail> {
-    for (fault, text) in [
-        (GlobError::InvalidUtf8, "the pattern is not UTF-8"),
-        (
-            GlobError::InvalidGlob,
-            "the pattern has an unclosed class or adjacent stars",
-        ),
-        (GlobError::Memory, "out of memory"),
-    ] {
-        assert_eq!(rt; format!(in rt.alloc(); "{fault}")?.as_str(), text);
+    for &(fault, text) in FAULTS {
+        shows(&rt, rt.alloc(), &fault, text)?;
     }
     Ok(())
 }
@@ -214,23 +265,44 @@ fn last_of_all(globs: &[Pattern], count: usize, name: &str) -> Option<usize> {
     found
 }
 
+/// Whether the list finds of each name what a look at each of its first globs finds.
+fn all_found(list: &GlobList, count: usize) -> bool {
+    for &name in LOOKED_UP {
+        if list.last_match(name) != last_of_all(list.as_slice(), count, name) {
+            return false;
+        }
+    }
+    true
+}
+
+/// Adds one glob.
+fn add(alloc: Global, list: &mut GlobList, pattern: &[u8]) -> Result<(), Fail> {
+    let glob = compile(alloc, false, pattern).ok().ok_or("a pattern")?;
+    list.push(glob)?;
+    Ok(())
+}
+
+/// Adds one glob after the other, and makes the index after each third. The first glob behind which a name was not found as it is to be.
+fn wrong_after(alloc: Global, list: &mut GlobList) -> Result<Option<usize>, Fail> {
+    for (number, &pattern) in LISTED.iter().enumerate() {
+        add(alloc, list, pattern)?;
+        let found = all_found(list, number + 1);
+        if number % 3 == 0 {
+            list.make_index()?;
+        }
+        if !found || !all_found(list, number + 1) {
+            return Ok(Some(number));
+        }
+    }
+    Ok(None)
+}
+
 #[test]
 fn lists_find_what_a_look_at_each_glob_finds(rt: HostRuntime) -> Result<(), Fail> {
     let mut list = GlobList::new(rt.alloc());
-    for (number, &pattern) in LISTED.iter().enumerate() {
-        list.push(compile(&rt, false, pattern).ok().ok_or("a pattern")?)?;
-        for indexed in [false, true] {
-            if indexed && number % 3 == 0 {
-                list.make_index()?;
-            }
-            for &name in LOOKED_UP {
-                assert_eq!(rt;
-                    list.last_match(name),
-                    last_of_all(list.as_slice(), number + 1, name),
-                    "{number} {name}"
-                );
-            }
-        }
-    }
+    let wrong = wrong_after(rt.alloc(), &mut list);
+    drop(list);
+    let wrong = wrong?;
+    assert_eq!(rt; wrong, None);
     Ok(())
 }

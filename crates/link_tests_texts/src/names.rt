@@ -4,14 +4,14 @@ use link_names::{
     Name, NameView, PassThroughHasher, PreHashed, PreHashedSymbolName, Seq, UnversionedSymbolName,
     VersionedSymbolName, hash_bytes, is_mapping_symbol_name, number_in_map, parse_number, text_of,
 };
-use std::alloc::Global;
+use std::alloc::{AllocError, Global};
 use std::collections::HashMap;
 use std::fmt;
 use std::process::Abort;
 use std::test::Fail;
 
 /// The value prints as this text.
-fn shows<D: fmt::Display>(
+pub fn shows<D: fmt::Display>(
     rt: &impl Abort,
     alloc: Global,
     value: &D,
@@ -29,13 +29,18 @@ const NAMES: &[(&[u8], bool, &str)] = &[
     (b"\xff\x00", false, "INVALID UTF-8([255, 0])"),
 ];
 
+/// A copy of the name.
+fn copied(alloc: Global, bytes: &[u8]) -> Result<Name, AllocError> {
+    let name = Name::from_slice(alloc, bytes)?;
+    name.clone()
+}
+
 #[test]
 fn names_are_shown(rt: HostRuntime) -> Result<(), Fail> {
     for &(bytes, is_text, want) in NAMES {
-        let name = Name::from_slice(rt.alloc(), bytes)?;
-        shows(&rt, rt.alloc(), &name, want)?;
+        shows(&rt, rt.alloc(), &Name::from_slice(rt.alloc(), bytes)?, want)?;
         shows(&rt, rt.alloc(), &NameView::new(bytes), want)?;
-        let unversioned = UnversionedSymbolName::new(name.clone()?);
+        let unversioned = UnversionedSymbolName::new(copied(rt.alloc(), bytes)?);
         shows(&rt, rt.alloc(), &unversioned, want)?;
         assert_eq!(rt; text_of(bytes).is_some(), is_text);
     }
@@ -46,7 +51,9 @@ fn names_are_shown(rt: HostRuntime) -> Result<(), Fail> {
 fn a_list_grows(rt: HostRuntime) -> Result<(), Fail> {
     let mut seq = Seq::new(rt.alloc());
     seq.push(3)?;
-    assert_eq!(rt; seq.as_slice(), [3].as_slice());
+    let grown = matches!(seq.as_slice(), [3]);
+    drop(seq);
+    assert!(rt; grown);
     Ok(())
 }
 
@@ -57,18 +64,25 @@ const HASHES: &[(&[u8], u64)] = &[
     (b"foobar", 0x8594_4171_f739_67e8),
 ];
 
+/// The number in a map of a name with no version.
+fn unversioned_number(alloc: Global, bytes: &[u8]) -> Result<u64, AllocError> {
+    let name = UnversionedSymbolName::prehashed(Name::from_slice(alloc, bytes)?);
+    Ok(number_in_map(name))
+}
+
+/// The number of a name with a version.
+fn versioned_number(alloc: Global, bytes: &[u8]) -> Result<u64, AllocError> {
+    let version = Name::from_slice(alloc, b"V1")?;
+    let name = Name::from_slice(alloc, bytes)?;
+    Ok(PreHashedSymbolName::from_raw(name, Some(version)).hash())
+}
+
 #[test]
 fn names_carry_their_numbers(rt: HostRuntime) -> Result<(), Fail> {
     for &(bytes, want) in HASHES {
-        assert_eq!(rt; hash_bytes(bytes), want);
-        let name = UnversionedSymbolName::prehashed(Name::from_slice(rt.alloc(), bytes)?);
-        assert_eq!(rt; number_in_map(name), want);
-        let version = Name::from_slice(rt.alloc(), b"V1")?;
-        let name = PreHashedSymbolName::from_raw(
-            Name::from_slice(rt.alloc(), bytes)?,
-            Some(version),
-        );
-        assert_eq!(rt; name.hash(), want);
+        let unversioned = unversioned_number(rt.alloc(), bytes)?;
+        let versioned = versioned_number(rt.alloc(), bytes)?;
+        assert!(rt; hash_bytes(bytes) == want && unversioned == want && versioned == want);
     }
     Ok(())
 }
@@ -79,14 +93,38 @@ fn versioned(alloc: Global, version: &[u8]) -> Result<PreHashed<VersionedSymbolN
     Ok(VersionedSymbolName::prehashed(name, version))
 }
 
+/// Numbers of names with versions.
+type Ids = HashMap<PreHashed<VersionedSymbolName>, u32, PassThroughHasher>;
+
+/// Gives each of two versions a number.
+fn number_versions(alloc: Global, ids: &mut Ids) -> Result<(), Fail> {
+    ids.insert(versioned(alloc, b"V1")?, 1)?;
+    ids.insert(versioned(alloc, b"V2")?, 2)?;
+    Ok(())
+}
+
+/// The number of this version.
+fn number_of(alloc: Global, ids: &Ids, version: &[u8]) -> Result<Option<u32>, Fail> {
+    let name = versioned(alloc, version)?;
+    Ok(ids.get(&name).copied())
+}
+
+/// Numbers two versions. The number of each, and that of a third.
+fn numbers(alloc: Global, ids: &mut Ids) -> Result<[Option<u32>; 3], Fail> {
+    number_versions(alloc, ids)?;
+    let first = number_of(alloc, ids, b"V1")?;
+    let second = number_of(alloc, ids, b"V2")?;
+    let third = number_of(alloc, ids, b"V3")?;
+    Ok([first, second, third])
+}
+
 #[test]
 fn versions_are_told_apart_in_a_map(rt: HostRuntime) -> Result<(), Fail> {
     let mut ids = HashMap::with_hasher(rt.alloc(), PassThroughHasher::default());
-    ids.insert(versioned(rt.alloc(), b"V1")?, 1)?;
-    ids.insert(versioned(rt.alloc(), b"V2")?, 2)?;
-    assert_eq!(rt; ids.get(&versioned(rt.alloc(), b"V1")?).copied(), Some(1));
-    assert_eq!(rt; ids.get(&versioned(rt.alloc(), b"V2")?).copied(), Some(2));
-    assert_eq!(rt; ids.get(&versioned(rt.alloc(), b"V3")?).copied(), None);
+    let found = numbers(rt.alloc(), &mut ids);
+    drop(ids);
+    let found = found?;
+    assert!(rt; matches!(found, [Some(1), Some(2), None]));
     Ok(())
 }
 

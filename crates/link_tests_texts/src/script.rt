@@ -4,7 +4,7 @@
 use link_names::Name;
 use link_script::{BasicMatchRules, Demangler, ExportList, MatchRules, Plain, VersionScript};
 use link_script_syntax::SymbolMatcher;
-use std::alloc::Global;
+use std::alloc::{AllocError, Global};
 use std::test::Fail;
 
 fn script(alloc: Global, text: &[u8]) -> Result<VersionScript, Fail> {
@@ -35,44 +35,66 @@ impl Demangler for Constant {
     }
 }
 
+/// Whether the script finds each name as it is seen demangled.
+fn are_seen(script: &VersionScript) -> bool {
+    version_of(script, b"foo", &Plain) == Some(3)
+        && version_of(script, b"foo", &Constant) == Some(2)
+        && version_of(script, b"foo", &&Constant) == Some(2)
+        && version_of(script, b"\xff", &Constant).is_none()
+}
+
 #[test]
 fn names_of_cxx_are_seen_demangled(rt: HostRuntime) -> Result<(), Fail> {
     let script = script(
         rt.alloc(),
         b"A { extern \"C++\" { shown; }; }; B { local: foo; };",
     )?;
-    let all = version_of(&script, b"foo", &Plain) == Some(3)
-        && version_of(&script, b"foo", &Constant) == Some(2)
-        && version_of(&script, b"foo", &&Constant) == Some(2)
-        && version_of(&script, b"\xff", &Constant).is_none();
+    let all = are_seen(&script);
     // Before the assertion, so that one arm alone lets the script go: each that does is proved apart.
     drop(script);
     assert!(rt; all);
     Ok(())
 }
 
-#[test]
-fn rules_see_names_demangled(rt: HostRuntime) -> Result<(), Fail> {
-    let mut rules = BasicMatchRules::new(rt.alloc());
-    rules.push(SymbolMatcher::Exact(Name::from_slice(rt.alloc(), b"shown")?))?;
-    let all = rules.matches_exact(b"foo", true, &Constant)
+/// Whether rules with the one name `shown` match as they are to.
+fn are_matched(rules: &BasicMatchRules) -> bool {
+    rules.matches_exact(b"foo", true, &Constant)
         && !rules.matches_exact(b"foo", false, &Constant)
         && !rules.matches_glob(b"shown", true, false, &Plain)
-        && !rules.matches_all();
+        && !rules.matches_all()
+}
+
+#[test]
+fn rules_see_names_demangled(rt: HostRuntime) -> Result<(), Fail> {
+    let name = Name::from_slice(rt.alloc(), b"shown")?;
+    let mut rules = BasicMatchRules::new(rt.alloc());
+    rules.push(SymbolMatcher::Exact(name))?;
+    let all = are_matched(&rules);
     drop(rules);
     assert!(rt; all);
     Ok(())
 }
 
+/// So many versions without names.
+fn empty_versions(alloc: Global, count: usize) -> Result<Vec<u8>, AllocError> {
+    let mut text = Vec::new(alloc);
+    for _ in 0..count {
+        text.extend_from_slice(b"V{};")?;
+    }
+    Ok(text)
+}
+
+/// How many versions the text of a script has.
+fn version_count(alloc: Global, text: &[u8]) -> Result<u16, Fail> {
+    Ok(script(alloc, text)?.version_count())
+}
+
 #[test]
 fn as_many_versions_as_there_may_be(rt: HostRuntime) -> Result<(), Fail> {
-    let mut most = Vec::new(rt.alloc());
-    for _ in 0..32_766 {
-        most.extend_from_slice(b"V{};")?;
-    }
-    let script = script(rt.alloc(), most.as_slice())?;
-    let count = script.version_count();
-    drop(script);
+    let most = empty_versions(rt.alloc(), 32_766)?;
+    let count = version_count(rt.alloc(), most.as_slice());
+    drop(most);
+    let count = count?;
     assert_eq!(rt; count, 32_767);
     Ok(())
 }
@@ -89,15 +111,27 @@ fn chain(alloc: Global, count: u32) -> Result<String, Fail> {
     Ok(text)
 }
 
+/// Whether the script is a chain of 2,000 versions.
+fn is_chain(script: &VersionScript) -> bool {
+    script.parent_count() == 1_999
+        && version_of(script, b"n", &Plain) == Some(2)
+        && version_of(script, b"n1234", &Plain) == Some(1_236)
+        && version_of(script, b"p1999_", &Plain) == Some(2_001)
+}
+
+/// Whether the text is a script that is such a chain.
+fn is_text_of_chain(alloc: Global, text: &[u8]) -> bool {
+    match VersionScript::parse(alloc, text) {
+        Ok(script) => is_chain(&script),
+        Err(_) => false,
+    }
+}
+
 #[test]
 fn many_versions(rt: HostRuntime) -> Result<(), Fail> {
     let text = chain(rt.alloc(), 2_000)?;
-    let script = script(rt.alloc(), text.as_bytes())?;
-    let all = script.parent_count() == 1_999
-        && version_of(&script, b"n", &Plain) == Some(2)
-        && version_of(&script, b"n1234", &Plain) == Some(1_236)
-        && version_of(&script, b"p1999_", &Plain) == Some(2_001);
-    drop(script);
+    let all = is_text_of_chain(rt.alloc(), text.as_bytes());
+    drop(text);
     assert!(rt; all);
     Ok(())
 }
