@@ -1,5 +1,5 @@
 -- What a command writes, by how it ends.
-use Rattle.std.specs.Prelude.{◌≡◌, ◌⊎◌, ℕ, List, [], ◌∷◌, ◌++◌, map, Option, IsSome, IfSome, Ok, Err, codes}
+use Rattle.std.specs.Prelude.{◌≡◌, ◌≢◌, ◌⊎◌, ℕ, List, [], ◌∷◌, ◌++◌, map, Option, IsSome, IfSome, Ok, Err, codes}
 use Rattle.std.specs.List.{flat_map}
 use Rattle.link_manifest_bulk.specs.Bulk.{bulk_objects}
 use Rattle.link_manifest_bulk.specs.World.{bulk_world}
@@ -18,6 +18,7 @@ use Rattle.link_manifest.specs.declared.manifest.Manifest.TheVariants.{Elf, Mach
 use Rattle.link_manifest.specs.FaultText.{fault_text}
 use Rattle.link_manifest.specs.Manifest.{manifest_of}
 use Rattle.link_report.specs.Summary.{summary_text}
+use Rattle.link_program_streams.specs.Streams.{Takes, TakesPart}
 use Rattle.link_program.specs.declared.run.Told.{Told}
 use Rattle.link_program.specs.declared.run.Told.TheVariants.{Report, Summary}
 use Rattle.link_program.specs.declared.status.Status.{Status}
@@ -124,3 +125,22 @@ IsDue words left Usage text = IsTextFor words left Usage text
 IsDue words left ReadFault text = ⊥
 IsDue words left WriteFault text = ⊥
 IsDue words left Memory text = ⊥
+
+-- ---- what comes of a run
+
+-- unless the sink failed, it took the whole text of the status, by the words and what the source had left
+abbrev pub IsWritten : List Bytes → Option Bytes → Status → Option Bytes → Option Bytes → Type 0
+IsWritten words left status before after = status ≢ WriteFault → (text : Bytes) × IsTextFor words left status text × Takes before after text
+
+-- where the sink failed, it took a part of the text of the status that would have come
+abbrev pub IsCutShort : List Bytes → Option Bytes → Status → (Status → Type 0) → Option Bytes → Option Bytes → Type 0
+IsCutShort words left status Comes before after =
+    status ≡ WriteFault → (due : Status) × (text : Bytes) × IsTextFor words left due text × TakesPart before after text × Comes due
+
+-- with this status the source was read to its end
+abbrev pub ReadsAll : Status → Type 0
+ReadsAll status = (status ≡ Linked) ⊎ (status ≡ Refused)
+
+-- the text of this status comes of a source that didn't fail
+abbrev pub IsOfWholeSource : Status → Type 0
+IsOfWholeSource status = (status ≢ ReadFault) × (status ≢ Memory)

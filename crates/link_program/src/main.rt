@@ -3,6 +3,7 @@
 //! sums up what that gives.
 #![tactic(auto)]
 
+mod arguments;
 mod command;
 mod run;
 mod status;
@@ -10,39 +11,14 @@ mod status;
 mod tests;
 mod word;
 
+use arguments::run_with_arguments;
 use link_program_streams::{RealSink, RealSource};
-use run::run;
-use status::Status;
-use std::alloc::{AllocError, Global};
+use std::env;
 use std::process::ExitCode;
-use std::rt::Env;
-use std::{env, io};
-use word::Word;
-
-/// The words behind the program's name; none where one of them is no text.
-fn words_of<R: Env + AllocGlobal>(rt: &R, alloc: Global) -> Result<Vec<Word>, AllocError> {
-    let mut words = Vec::new(alloc);
-    match env::args(rt) {
-        Ok(args) => {
-            for arg in args.skip(1) {
-                words.push(Word::new(arg))?;
-            }
-        }
-        Err(error) if error.kind() == io::ErrorKind::OutOfMemory => return Err(AllocError),
-        Err(_) => {}
-    }
-    Ok(words)
-}
 
 fn main(rt: HostRuntime) -> ExitCode {
-    let alloc = rt.alloc();
-    let status = match words_of(&rt, alloc) {
-        Ok(words) => {
-            let mut source = RealSource::new(rt.stdin());
-            let mut sink = RealSink::new(rt.stdout());
-            run(&rt, alloc, &words, &mut source, &mut sink)
-        }
-        Err(_) => Status::Memory,
-    };
+    let mut source = RealSource::new(rt.stdin());
+    let mut sink = RealSink::new(rt.stdout());
+    let status = run_with_arguments(&rt, rt.alloc(), env::args(&rt), &mut source, &mut sink);
     status.exit_code()
 }

@@ -13,9 +13,9 @@ ghost use Rattle.link_rules.specs.declared.refusal.LinkError.TheVariants.{Memory
 ghost use Rattle.link_rules.specs.Places.{Bytes};
 ghost use Rattle.link_rules.specs.Report.{refusal_text};
 ghost use Rattle.link_rules.specs.World.{world_of};
-ghost use Rattle.link_program_streams.specs.Streams.{IsAtEnd, GivesAtMost, Takes, TakesPart, Rose};
+ghost use Rattle.link_program_streams.specs.Streams.{IsAtEnd, IsCalledAtMost, GivesAtMost, Takes, Rose};
 ghost use Rattle.link_program.specs.Grammar.{IsInRange, IsLink, ReadsNothing};
-ghost use Rattle.link_program.specs.Outcome.{error_line, IsSummary, IsTextOf, IsLinkText, IsTextFor, IsDue, IsWorldText, given_of, objects_given, told_text, world_of_manifest};
+ghost use Rattle.link_program.specs.Outcome.{error_line, IsCutShort, IsDue, IsLinkText, IsOfWholeSource, IsSummary, IsTextFor, IsTextOf, IsWorldText, IsWritten, ReadsAll, given_of, objects_given, told_text, world_of_manifest};
 
 use crate::command::{Command, command_of};
 use crate::status::Status;
@@ -59,6 +59,9 @@ struct Answer {
 /// that the rules of a link give, and a link is refused exactly with the first cause that the
 /// manifest holds. Neither the number of workers nor the pieces in which the bytes come and go
 /// change a byte of it. A fault of source or sink is told only where one came.
+///
+/// It is for a program that runs one command and ends: what the reading of a manifest took of memory
+/// is not all given back.
 pub fn run<R: Threads + Sync, S: Source, K: Sink>(
     rt: &R,
     alloc: Global,
@@ -67,20 +70,20 @@ pub fn run<R: Threads + Sync, S: Source, K: Sink>(
     sink: &mut K,
 ) -> Status
     // What is written, by the status.
-    ensures written { result ≢ Status.WriteFault → (text : Bytes)
-        × IsTextFor words.now (S.left source.old) result text × Takes (K.taken sink.old) (K.taken sink.new) text }
-    ensures part { result ≡ Status.WriteFault → (status : Status) × (text : Bytes)
-        × IsTextFor words.now (S.left source.old) status text × TakesPart (K.taken sink.old) (K.taken sink.new) text
-        × (status ≡ Status.ReadFault → Rose (S.faults source.old) (S.faults source.new))
-        × (IsLink words.now → (status ≡ Status.Linked) ⊎ (status ≡ Status.Refused) → IsAtEnd (S.left source.new)) }
+    ensures written { IsWritten words.now (S.left source.old) result (K.taken sink.old) (K.taken sink.new) }
+    ensures part { IsCutShort words.now (S.left source.old) result (λ status. (status ≡ Status.ReadFault → Rose (S.faults source.old) (S.faults source.new))
+        × (IsLink words.now → ReadsAll status → IsAtEnd (S.left source.new))) (K.taken sink.old) (K.taken sink.new) }
 
-    ensures nothing_left { IsLink words.now → (result ≡ Status.Linked) ⊎ (result ≡ Status.Refused) → IsAtEnd (S.left source.new) }
+    ensures nothing_left { IsLink words.now → ReadsAll result → IsAtEnd (S.left source.new) }
     ensures nothing_read { ReadsNothing words.now → S.left source.new ≡ S.left source.old }
     ensures read_no_further { GivesAtMost (S.left source.old) (S.left source.new) (2 ^ 28 + 1) }
+    ensures turns { IsCalledAtMost (S.calls source.old) (S.calls source.new) (2 ^ 28 + 1) }
 
-    // A fault is told only where one came.
+    // A fault is told only where one came, and each answer that a stream failed is told.
     ensures read_fault { result ≡ Status.ReadFault → Rose (S.faults source.old) (S.faults source.new) }
     ensures write_fault { result ≡ Status.WriteFault → Rose (K.faults sink.old) (K.faults sink.new) }
+    ensures source_answered { result ≢ Status.WriteFault → IsOfWholeSource result → S.refusals source.new ≡ S.refusals source.old }
+    ensures sink_answered { result ≢ Status.WriteFault → K.refusals sink.new ≡ K.refusals sink.old }
 
     // Where there is none, what is due is written, unless memory runs out.
     ensures complete { (status : Status) (text : Bytes) → IsDue words.now (S.left source.old) status text
@@ -105,9 +108,11 @@ fn answer_to<R: Threads + Sync, S: Source>(
     source: &mut S,
 ) -> Result<Answer, AllocError>
     ensures text { IfOk result (λ a. IsTextFor words.now (S.left source.old) a.status a.text.items) }
-    ensures nothing_left { IfOk result (λ a. IsLink words.now → (a.status ≡ Status.Linked) ⊎ (a.status ≡ Status.Refused) → IsAtEnd (S.left source.new)) }
+    ensures nothing_left { IfOk result (λ a. IsLink words.now → ReadsAll a.status → IsAtEnd (S.left source.new)) }
     ensures nothing_read { ReadsNothing words.now → S.left source.new ≡ S.left source.old }
     ensures read_no_further { GivesAtMost (S.left source.old) (S.left source.new) (2 ^ 28 + 1) }
+    ensures turns { IsCalledAtMost (S.calls source.old) (S.calls source.new) (2 ^ 28 + 1) }
+    ensures source_answered { IfOk result (λ a. a.status ≢ Status.ReadFault → S.refusals source.new ≡ S.refusals source.old) }
     ensures read_fault { IfOk result (λ a. a.status ≡ Status.ReadFault → Rose (S.faults source.old) (S.faults source.new)) }
     ensures answered { IfOk result (λ a. a.status ≢ Status.Memory) }
 {
@@ -127,8 +132,10 @@ fn answer_to_link<R: Threads + Sync, S: Source>(
 ) -> Result<Answer, AllocError>
     requires in_range { IsInRange (Command.Link workers) }
     ensures text { IfOk result (λ a. IsLinkText (S.left source.old) a.status a.text.items) }
-    ensures nothing_left { IfOk result (λ a. (a.status ≡ Status.Linked) ⊎ (a.status ≡ Status.Refused) → IsAtEnd (S.left source.new)) }
+    ensures nothing_left { IfOk result (λ a. ReadsAll a.status → IsAtEnd (S.left source.new)) }
     ensures read_no_further { GivesAtMost (S.left source.old) (S.left source.new) (2 ^ 28 + 1) }
+    ensures turns { IsCalledAtMost (S.calls source.old) (S.calls source.new) (2 ^ 28 + 1) }
+    ensures source_answered { IfOk result (λ a. a.status ≢ Status.ReadFault → S.refusals source.new ≡ S.refusals source.old) }
     ensures read_fault { IfOk result (λ a. a.status ≡ Status.ReadFault → Rose (S.faults source.old) (S.faults source.new)) }
 {
     match read_all(alloc, source, MAX_BYTES) {

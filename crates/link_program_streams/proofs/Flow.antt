@@ -1,7 +1,7 @@
 -- Pieces of a stream, one after another.
-use Rattle.std.proofs.Common.{◌≡◌, ℕ, ◌+◌, ◌<◌, ◌≤◌, List, [], ◌++◌, length, Option, Some, None, IfSome, Result, Ok, Err, OnErr, arith, refl}
+use Rattle.std.proofs.Common.{◌≡◌, ℕ, ◌+◌, ◌<◌, ◌≤◌, List, [], ◌++◌, length, Option, Some, None, IfSome, Result, Ok, Err, OnErr, arith, inl, inr, refl}
 use Rattle.std.proofs.lemmas.Grind.{common_steps}
-use Rattle.link_program_streams.specs.Streams.{Gives, GivesAtMost, GivesCount, Takes}
+use Rattle.link_program_streams.specs.Streams.{Gives, GivesAtMost, GivesCount, IsCalledAtMost, Rose, Takes}
 
 -- handing over nothing changes nothing
 pub gives-nothing : (a : Option (List ℕ)) → Gives a a []
@@ -54,6 +54,16 @@ takes-more None (Some b) c xs ys first second = absurd first
 takes-more (Some a) None c xs ys first second = absurd first
 takes-more (Some a) (Some b) None xs ys first second = second
 takes-more (Some a) (Some b) (Some c) xs ys first second = rw (second, first) (grind (arith, common_steps))
+
+-- a count that rose behind a part in which it didn't fall rose
+pub rose-behind : (a b c : ℕ) → a ≤ b → Rose b c → Rose a c
+rose-behind a b c no_less (inl rose) = inl (omega (arith, no_less, rose))
+rose-behind a b c no_less (inr most) = inr most
+
+-- where no call comes, no more than so many come
+pub called-none : (a : Option ℕ) (most : ℕ) → IsCalledAtMost a a most
+called-none None most = tt
+called-none (Some calls) most = omega arith
 
 -- a fact that holds anyway holds on an error
 pub on_err : {T E P : Type 0} (r : Result T E) → P → OnErr r P

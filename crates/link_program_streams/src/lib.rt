@@ -4,6 +4,8 @@
 //!
 //! A source and a sink count their faults. What a contract says of a failure is said by that
 //! count: an error is answered only where the count rose in the call.
+//!
+//! Some of its public calls are for callers of the library alone, and no crate here makes them: docs/PORT.md lists them.
 #![tactic(auto)]
 
 mod memory;

@@ -43,13 +43,13 @@ impl SteadySource {
 }
 
 impl Source for SteadySource {
-    ghost use Rattle.std.specs.Prelude.{Some, None};
+    ghost use Rattle.std.specs.Prelude.{Some};
 
     ghost left = { λ s. Some s.left };
 
     ghost faults = { λ _. 0 };
 
-    ghost calls = { λ _. None };
+    ghost refusals = { λ _. 0 };
 
     fn read(&mut self, buf: &mut [u8]) -> Result<usize, Failed>
         requires { 0 < length buf.old }
@@ -112,6 +112,8 @@ impl Source for MemorySource {
     ghost left = { λ s. Some s.left };
 
     ghost faults = { λ s. s.faults };
+
+    ghost refusals = { λ s. s.faults };
 
     ghost calls = { λ s. Some s.calls };
 
@@ -215,6 +217,8 @@ impl Sink for MemorySink {
     ghost taken = { λ s. Some s.taken };
 
     ghost faults = { λ s. s.faults };
+
+    ghost refusals = { λ s. s.faults };
 
     /// Where the room doesn't suffice and there is no memory for more, the call fails too.
     fn write(&mut self, piece: &[u8]) -> Result<usize, Failed>

@@ -72,7 +72,7 @@ impl<T: Read> Source for RealSource<T> {
 
     ghost faults = { λ s. s.faults };
 
-    ghost calls = { λ _. None };
+    ghost refusals = { λ s. s.faults };
 
     fn read(&mut self, buf: &mut [u8]) -> Result<usize, Failed>
         requires { 0 < length buf.old }
@@ -125,6 +125,8 @@ impl<T: Write> Sink for RealSink<T> {
     ghost taken = { λ _. None };
 
     ghost faults = { λ s. s.faults };
+
+    ghost refusals = { λ s. s.faults };
 
     fn write(&mut self, piece: &[u8]) -> Result<usize, Failed>
         requires { 0 < length piece.now }

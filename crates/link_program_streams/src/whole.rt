@@ -2,7 +2,7 @@
 
 ghost use Rattle.std.specs.Prelude.{◌≡◌, ◌+◌, ◌<◌, ◌≤◌, length, IfOk, OnOk, OnErr, IfSome, IsErrOf};
 ghost use Rattle.link_program_streams.specs.declared.whole.ReadAllError.TheVariants.{ReadFault, Memory};
-ghost use Rattle.link_program_streams.specs.Streams.{Gives, GivesPart, GivesAtMost, GivesCount, IsAtEnd, Takes, TakesPart, Rose, IsCalledAtMost};
+ghost use Rattle.link_program_streams.specs.Streams.{Gives, GivesPart, GivesAtMost, GivesCount, IsAtEnd, Takes, TakesPart, Rose, IsCalledAtMost, raised};
 
 use crate::stream::{Failed, Sink, Source};
 use std::alloc::{AllocError, Global};
@@ -43,7 +43,8 @@ impl From<Failed> for ReadAllError {
 
 /// All that a source has left, which are at most `limit` bytes. After an error the source has
 /// handed over some of its bytes. No answer takes more than `limit + 1` of them, or more calls
-/// than that: each call but the last gives a byte at least.
+/// than that: each call but the last gives a byte at least. The source is asked no further once
+/// it failed.
 pub fn read_all<S: Source>(
     alloc: Global,
     source: &mut S,
@@ -58,7 +59,8 @@ pub fn read_all<S: Source>(
     ensures part { OnErr result (GivesPart (S.left source.old) (S.left source.new)) }
     ensures over { IsErrOf result ReadAllError.TooLong → GivesCount (S.left source.old) (S.left source.new) (limit + 1) }
     ensures no_further { GivesAtMost (S.left source.old) (S.left source.new) (limit + 1) }
-    ensures unharmed { OnOk result (S.faults source.new ≡ S.faults source.old) }
+    ensures answered { ¬ IsErrOf result ReadAllError.ReadFault → S.refusals source.new ≡ S.refusals source.old }
+    ensures refused { IsErrOf result ReadAllError.ReadFault → S.refusals source.new ≡ raised (S.refusals source.old) }
     ensures never_falls { S.faults source.old ≤ S.faults source.new }
     ensures calls_on_ok { IfOk result (λ bytes. IsCalledAtMost (S.calls source.old) (S.calls source.new) (length bytes.items + 1)) }
     ensures calls { IsCalledAtMost (S.calls source.old) (S.calls source.new) (limit + 1) }
@@ -79,11 +81,13 @@ pub fn read_all<S: Source>(
     }
 }
 
-/// Hands all of a text to a sink. After an error the sink has taken a part of it from its front.
+/// Hands all of a text to a sink. After an error the sink has taken a part of it from its front. It
+/// is handed nothing more once it failed.
 pub fn write_all<K: Sink>(sink: &mut K, bytes: &[u8]) -> Result<(), Failed>
     ensures whole { OnOk result (Takes (K.taken sink.old) (K.taken sink.new) bytes.now) }
     ensures part { OnErr result (TakesPart (K.taken sink.old) (K.taken sink.new) bytes.now) }
-    ensures unharmed { OnOk result (K.faults sink.new ≡ K.faults sink.old) }
+    ensures answered { OnOk result (K.refusals sink.new ≡ K.refusals sink.old) }
+    ensures refused { OnErr result (K.refusals sink.new ≡ raised (K.refusals sink.old)) }
     ensures failed { OnErr result (Rose (K.faults sink.old) (K.faults sink.new)) }
     ensures never_falls { K.faults sink.old ≤ K.faults sink.new }
 {

@@ -11,5 +11,6 @@ loop-written-preserved g c =
     record {
       within = grind (arith, common_steps);
       taken = rw take-add (takes-more _ (g.K.Sink.taken c.loop-written.sink) _ _ _ c.loop-written.invariant.taken piece);
-      faults = c.in_ok-written.ensures.unharmed ∙ c.loop-written.invariant.faults;
+      faults = let before = c.loop-written.invariant.faults in let here = c.in_ok-written.ensures.never_falls in omega (arith, before, here);
+      refusals = c.in_ok-written.ensures.answered ∙ c.loop-written.invariant.refusals;
     }
