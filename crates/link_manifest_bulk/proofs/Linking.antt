@@ -15,7 +15,8 @@ use Rattle.link_rules.specs.Rivals.{plain_table}
 use Rattle.link_rules.specs.Undefined.{Resolution, resolved}
 use Rattle.link_rules.specs.Versions.{version_refusal, version_given, undeclared_version}
 use Rattle.link_rules.specs.Refusals.{counts_at, batch_refusal, empty_refusal, group_refusal, duplicate_lines, late_refusal}
-use Rattle.link_rules.specs.Answer.{End, BatchesEnd, IsRefused}
+use Rattle.link_rules.specs.Answer.{End, BatchesEnd, IsLinked, IsRefused}
+use Rattle.link_rules.specs.Linked.{Linked}
 use Rattle.link_manifest_bulk.specs.Bulk.{bulk_object, bulk_objects}
 use Rattle.link_manifest_bulk.specs.World.{bulk_world}
 use Rattle.link_manifest_bulk.proofs.Single.{none_given}
@@ -91,6 +92,12 @@ ends : (members : ℕ) (end : End) → members ≤ 100000 → BatchesEnd (bulk_w
 ends members end few it =
     let batch = goes-on (batch_refusal false (start_of (bulk_world members)) (bulk_world members).first) (λ e. end ≡ Err e) (no-batch members few) it in
     (batch.0, goes-on (group_refusal (selection_of (bulk_stage members) batch.0)) (λ e. end ≡ Err e) (no-groups members (bulk_stage members) batch.0 (stage-is members)) batch.2)
+
+-- the objects of what is selected are all that there are
+pub last-objects : (members : ℕ) (linked : Linked) → members ≤ 100000 → (is : IsLinked (bulk_world members) linked) → is.last.stage.objects ≡ bulk_objects members
+last-objects members linked few is =
+    let it = ends members (Ok is.last) few is.ends in
+    ap (λ (l : Selection). l.stage.objects) (ok-same is.last (selection_of (bulk_stage members) it.0) it.1)
 
 -- so it is not refused
 pub not-refused : (members : ℕ) (e : LinkError) → 1 ≤ members → members ≤ 100000 → IsRefused (bulk_world members) e → ⊥

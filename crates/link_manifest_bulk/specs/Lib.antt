@@ -2,3 +2,4 @@ pub mod Names
 pub mod Tables
 pub mod Bulk
 pub mod World
+pub mod Chain

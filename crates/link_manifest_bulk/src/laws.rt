@@ -4,6 +4,7 @@ ghost use Rattle.std.specs.Prelude.{◌≡◌, ◌≤◌, ℕ, true, None};
 ghost use Rattle.link_input.specs.Checks.{first_fault};
 ghost use Rattle.link_rules.specs.declared.refusal.LinkError.{LinkError};
 ghost use Rattle.link_rules.specs.Answer.{IsRefused};
+ghost use Rattle.link_manifest_bulk.specs.Chain.{chain_member_table, chain_start_table};
 ghost use Rattle.link_manifest_bulk.specs.Tables.{main_table, member_table};
 ghost use Rattle.link_manifest_bulk.specs.World.{bulk_world};
 
@@ -11,6 +12,12 @@ ghost use Rattle.link_manifest_bulk.specs.World.{bulk_world};
 pub fn bulk_tables_pass()
     ensures main { first_fault true main_table ≡ None }
     ensures members { (members i : ℕ) → first_fault true (member_table members i) ≡ None }
+{}
+
+/// So does every table of a chain.
+pub fn chain_tables_pass()
+    ensures start { first_fault true chain_start_table ≡ None }
+    ensures members { (members i : ℕ) → first_fault true (chain_member_table members i) ≡ None }
 {}
 
 /// A made-up link is not refused: its files are within all limits, and no two definitions of a name are left that clash.

@@ -1,7 +1,7 @@
 //! A made-up link as a manifest.
 
 ghost use Rattle.std.specs.Prelude.{◌≡◌, ◌≤◌, IfOk};
-ghost use Rattle.link_manifest_bulk.specs.Bulk.{bulk_objects, bulk_manifest};
+ghost use Rattle.link_manifest_bulk.specs.Bulk.{bulk_manifest, bulk_objects, manifest_with};
 
 use crate::objects::bulk_object;
 use link_input::{ElfLike, Inputs, Options, ParsedInputObject, Scripts, World};
@@ -27,6 +27,27 @@ fn bulk_objects(
     Ok(Seq::from_vec(objects))
 }
 
+/// A link of these objects, for a platform like ELF, by the options of a link of which the user says nothing.
+pub(crate) fn manifest_with(alloc: Global, objects: Seq<ParsedInputObject<ElfLike>>) -> Manifest
+    ensures { result ≡ manifest_with objects }
+{
+    let inputs = Inputs {
+        objects,
+        scripts: Seq::new(alloc),
+        stubs: Seq::new(alloc),
+    };
+    let scripts = Scripts {
+        version_script: None,
+        export_list: None,
+    };
+    Manifest::Elf(World {
+        inputs,
+        later: Seq::new(alloc),
+        options: Options::new(alloc),
+        scripts,
+    })
+}
+
 /// A made-up link of an object and an archive with so many members, for a platform like ELF, by the options of a link of
 /// which the user says nothing.
 ///
@@ -40,19 +61,6 @@ pub fn bulk_manifest(alloc: Global, members: usize) -> Result<Manifest, AllocErr
     requires in_range { members ≤ 100000 }
     ensures { IfOk result (λ manifest. manifest ≡ bulk_manifest members) }
 {
-    let inputs = Inputs {
-        objects: bulk_objects(alloc, members)?,
-        scripts: Seq::new(alloc),
-        stubs: Seq::new(alloc),
-    };
-    let scripts = Scripts {
-        version_script: None,
-        export_list: None,
-    };
-    Ok(Manifest::Elf(World {
-        inputs,
-        later: Seq::new(alloc),
-        options: Options::new(alloc),
-        scripts,
-    }))
+    let objects = bulk_objects(alloc, members)?;
+    Ok(manifest_with(alloc, objects))
 }

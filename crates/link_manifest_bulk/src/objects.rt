@@ -2,7 +2,7 @@
 
 ghost use Rattle.std.specs.Prelude.{◌≡◌, ◌≤◌, true, None, IfOk};
 ghost use Rattle.link_input.specs.Checks.{first_fault};
-ghost use Rattle.link_manifest_bulk.specs.Bulk.{main_object, member_object, bulk_object};
+ghost use Rattle.link_manifest_bulk.specs.Bulk.{archived_object, bulk_object, required_object};
 
 use crate::names::{main_file, member_file};
 use crate::tables::{main_table, member_table};
@@ -23,11 +23,15 @@ fn passing_object(alloc: Global, table: ObjectTable) -> Result<InputObject<ElfLi
     }
 }
 
-/// The object that is linked in any case.
-fn main_object(alloc: Global) -> Result<ParsedInputObject<ElfLike>, AllocError>
-    ensures { IfOk result (λ object. object ≡ main_object) }
+/// The object that is linked in any case, with this table.
+pub(crate) fn required_object(
+    alloc: Global,
+    table: ObjectTable,
+) -> Result<ParsedInputObject<ElfLike>, AllocError>
+    requires passes { first_fault true table ≡ None }
+    ensures { IfOk result (λ object. object ≡ required_object table) }
 {
-    let object = passing_object(alloc, main_table(alloc)?)?;
+    let object = passing_object(alloc, table)?;
     let modifiers = Modifiers {
         archive: false,
         whole_archive: false,
@@ -36,16 +40,16 @@ fn main_object(alloc: Global) -> Result<ParsedInputObject<ElfLike>, AllocError>
     Ok(ParsedInputObject::new(main_file(alloc)?, object, modifiers))
 }
 
-/// A member of so many.
-fn member_object(
+/// A member of an archive, with this table.
+pub(crate) fn archived_object(
     alloc: Global,
-    members: usize,
     member: usize,
+    table: ObjectTable,
 ) -> Result<ParsedInputObject<ElfLike>, AllocError>
-    requires { member ≤ 100000 }
-    ensures { IfOk result (λ object. object ≡ member_object members member) }
+    requires passes { first_fault true table ≡ None }
+    ensures { IfOk result (λ object. object ≡ archived_object member table) }
 {
-    let object = passing_object(alloc, member_table(alloc, members, member)?)?;
+    let object = passing_object(alloc, table)?;
     let modifiers = Modifiers {
         archive: true,
         whole_archive: false,
@@ -64,8 +68,8 @@ pub(crate) fn bulk_object(
     ensures { IfOk result (λ object. object ≡ bulk_object members place) }
 {
     if place == 0 {
-        main_object(alloc)
+        required_object(alloc, main_table(alloc)?)
     } else {
-        member_object(alloc, members, place)
+        archived_object(alloc, place, member_table(alloc, members, place)?)
     }
 }

@@ -10,7 +10,7 @@ use link_names::{Name, Seq};
 use std::alloc::{AllocError, Global};
 
 /// The entry that stands before all others of a table.
-fn null_entry(alloc: Global) -> SymbolEntry
+pub(crate) fn null_entry(alloc: Global) -> SymbolEntry
     ensures { result ≡ null_entry }
 {
     SymbolEntry {
@@ -26,7 +26,7 @@ fn null_entry(alloc: Global) -> SymbolEntry
 }
 
 /// A global symbol that is plain in all else.
-fn global_entry(name: Name, place: Place) -> SymbolEntry
+pub(crate) fn global_entry(name: Name, place: Place) -> SymbolEntry
     ensures { result ≡ global_entry name place }
 {
     SymbolEntry {
