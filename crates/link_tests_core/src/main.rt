@@ -11,6 +11,8 @@ mod looking;
 #[cfg(test)]
 mod outcome;
 #[cfg(test)]
+mod road;
+#[cfg(test)]
 mod sessions;
 mod shape;
 #[cfg(test)]

@@ -3,8 +3,8 @@
 use link_closure::Edge;
 use link_flags::Visibility;
 use link_input::{
-    ElfLike, InputObject, Inputs, Modifiers, ObjectTable, ParsedInputObject, Place, SymbolBinding,
-    SymbolEntry, SymbolKind,
+    ElfLike, InputObject, Inputs, Modifiers, ObjectTable, ParsedInputObject, Place, SectionGroup,
+    SymbolBinding, SymbolEntry, SymbolKind,
 };
 use link_names::{Name, Seq};
 use std::alloc::{AllocError, Global};
@@ -29,6 +29,8 @@ pub(crate) struct Symbol {
 pub(crate) struct Shape {
     pub(crate) required: usize,
     pub(crate) objects: Vec<Vec<Symbol>>,
+    /// In each object the section of definitions is the member of a COMDAT group, which the first symbol signs.
+    pub(crate) is_comdat: bool,
 }
 
 impl Shape {
@@ -43,7 +45,11 @@ impl Shape {
         for _ in 0..count {
             objects.push(Vec::new(alloc))?;
         }
-        Ok(Shape { required, objects })
+        Ok(Shape {
+            required,
+            objects,
+            is_comdat: false,
+        })
     }
 
     /// Adds a symbol to an object, if there is such an object.
@@ -99,8 +105,24 @@ fn entry_of(alloc: Global, symbol: Symbol) -> Result<SymbolEntry, AllocError> {
     })
 }
 
-/// The symbol table of an object of two sections, behind a null entry.
-fn table_of(alloc: Global, symbols: &[Symbol]) -> Result<ObjectTable, AllocError> {
+/// The section groups of an object: none, or a COMDAT group with the section 1 and the header 2, whose signature is the first symbol.
+fn groups_of(alloc: Global, is_comdat: bool) -> Result<Seq<SectionGroup>, AllocError> {
+    let mut groups = Seq::new(alloc);
+    if is_comdat {
+        let mut members = Seq::new(alloc);
+        members.push(1)?;
+        groups.push(SectionGroup {
+            index: 2,
+            signature_symbol: 1,
+            is_comdat: true,
+            members,
+        })?;
+    }
+    Ok(groups)
+}
+
+/// The symbol table of an object of three sections, behind a null entry.
+fn table_of(alloc: Global, symbols: &[Symbol], is_comdat: bool) -> Result<ObjectTable, AllocError> {
     let mut entries = Vec::with_capacity(alloc, symbols.len().saturating_add(1))?;
     let null = Name::new(Vec::new(alloc));
     entries.push(entry(null, SymbolBinding::Local, Place::Undefined))?;
@@ -110,9 +132,9 @@ fn table_of(alloc: Global, symbols: &[Symbol]) -> Result<ObjectTable, AllocError
     Ok(ObjectTable {
         is_dynamic: false,
         lib_name: Name::new(Vec::new(alloc)),
-        sections: 2,
+        sections: 3,
         symbols: Seq::from_vec(entries),
-        groups: Seq::new(alloc),
+        groups: groups_of(alloc, is_comdat)?,
     })
 }
 
@@ -127,7 +149,8 @@ pub(crate) fn inputs_of(alloc: Global, shape: &Shape) -> Result<Inputs<ElfLike>,
             as_needed: false,
         };
         // Each table passes every check, so what is refused is want of memory.
-        let Ok(object) = InputObject::new(alloc, table_of(alloc, symbols)?) else {
+        let table = table_of(alloc, symbols, shape.is_comdat)?;
+        let Ok(object) = InputObject::new(alloc, table) else {
             return Err(AllocError);
         };
         let input = Name::from_slice(alloc, b"object")?;
