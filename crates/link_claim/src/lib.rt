@@ -2,6 +2,8 @@
 //! rule, and the rule keeps the law of a plain core: whatever the order of the steps, once all is read the claimed files
 //! are the least closed set, and the flags have the marks of just those files. What a workload is stands in
 //! `link_closure`; here stand its words, and who steps on them.
+//!
+//! Some of its public calls are for callers of the library alone, and no crate here makes them: docs/PORT.md lists them.
 #![tactic(auto)]
 
 mod closed;

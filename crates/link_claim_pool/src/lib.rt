@@ -1,5 +1,7 @@
 //! The closure of any plan whose items can be read, found by threads that take hints from one another. Nothing rests on
 //! the hints: what they miss is read by one thread in the end.
+//!
+//! Some of its public calls are for callers of the library alone, and no crate here makes them: docs/PORT.md lists them.
 #![tactic(auto)]
 
 mod hints;

@@ -2,6 +2,8 @@
 //! asks for. Here stands what that means for any roots and any edges, and the plain way to compute it. Beside it stands
 //! what a workload is, for those who mean one and those who run it: the items of files, what each requests and marks, and
 //! which flags that leaves.
+//!
+//! Some of its public calls are for callers of the library alone, and no crate here makes them: docs/PORT.md lists them.
 #![tactic(auto)]
 
 mod workload;

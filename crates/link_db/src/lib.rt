@@ -1,4 +1,6 @@
 //! The database of names and symbols: the room between the tables of files and the choices of a link.
+//!
+//! Some of its public calls are for callers of the library alone, and no crate here makes them: docs/PORT.md lists them.
 #![tactic(auto)]
 
 mod adding;

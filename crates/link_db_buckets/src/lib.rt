@@ -1,5 +1,7 @@
 //! Which symbols define a name and which one it is mapped to, in buckets of names by their hash numbers. No name is copied:
 //! a bucket keeps hash numbers and labels, and compares bytes through the tables that hold the names.
+//!
+//! Some of its public calls are for callers of the library alone, and no crate here makes them: docs/PORT.md lists them.
 #![tactic(auto)]
 
 mod ahead;

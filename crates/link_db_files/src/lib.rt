@@ -1,4 +1,6 @@
 //! The files of a link in their groups, found by the ids of their symbols, and the symbols that the linker adds.
+//!
+//! Some of its public calls are for callers of the library alone, and no crate here makes them: docs/PORT.md lists them.
 #![tactic(auto)]
 
 mod adding;

@@ -1,4 +1,6 @@
 //! Which symbols define a name and what the name is mapped to, over the files that a link holds.
+//!
+//! Some of its public calls are for callers of the library alone, and no crate here makes them: docs/PORT.md lists them.
 #![tactic(auto)]
 
 mod adding;

@@ -1,4 +1,6 @@
 //! All symbols of a link one after another, each as the definitions of a link see it.
+//!
+//! Some of its public calls are for callers of the library alone, and no crate here makes them: docs/PORT.md lists them.
 #![tactic(auto)]
 
 mod all_symbols;

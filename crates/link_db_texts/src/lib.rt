@@ -1,5 +1,7 @@
 //! What is read before names are resolved: the version script, the export list and the forced export names of a link, and from
 //! them each symbol's flags as its file is read.
+//!
+//! Some of its public calls are for callers of the library alone, and no crate here makes them: docs/PORT.md lists them.
 #![tactic(auto)]
 
 mod opening;

@@ -1,4 +1,6 @@
 //! The numbers of a link: ids of symbols, sections and files, indexes in a table, and ranges of ids.
+//!
+//! Some of its public calls are for callers of the library alone, and no crate here makes them: docs/PORT.md lists them.
 #![tactic(auto)]
 
 mod file_id;

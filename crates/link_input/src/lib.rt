@@ -1,4 +1,6 @@
 //! What a link is given: the symbol tables of objects, linker scripts, stub libraries, and the options.
+//!
+//! Some of its public calls are for callers of the library alone, and no crate here makes them: docs/PORT.md lists them.
 #![tactic(auto)]
 
 mod builder;

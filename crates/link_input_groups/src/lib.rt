@@ -1,4 +1,6 @@
 //! The inputs of a link in groups, which are read side by side, with the ids of their files, symbols and sections.
+//!
+//! Some of its public calls are for callers of the library alone, and no crate here makes them: docs/PORT.md lists them.
 #![tactic(auto)]
 
 mod counting;

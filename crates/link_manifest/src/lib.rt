@@ -3,6 +3,8 @@
 //! A manifest that can't be read is told with the place in it that is at fault, as
 //! `objects[0].symbols[2].name: missing`. Which of several faults is told is fixed: the tree is
 //! walked from its root, and the first fault on that walk counts.
+//!
+//! Some of its public calls are for callers of the library alone, and no crate here makes them: docs/PORT.md lists them.
 #![tactic(auto)]
 
 mod batches;

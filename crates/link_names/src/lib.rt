@@ -1,5 +1,7 @@
 //! The names of a link: lists and byte strings as contracts see them, sets and maps of names, how a name prints, and the
 //! numbers that names are found by in a map.
+//!
+//! Some of its public calls are for callers of the library alone, and no crate here makes them: docs/PORT.md lists them.
 #![tactic(auto)]
 
 mod agreement;

@@ -1,4 +1,6 @@
 //! Which objects of a link are loaded, and what each name and each reference then means.
+//!
+//! Some of its public calls are for callers of the library alone, and no crate here makes them: docs/PORT.md lists them.
 #![tactic(auto)]
 
 mod canonical;

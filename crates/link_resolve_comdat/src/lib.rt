@@ -1,4 +1,6 @@
 //! Which section groups of the loaded regular objects are kept, and what is asked of the groups of one object.
+//!
+//! Some of its public calls are for callers of the library alone, and no crate here makes them: docs/PORT.md lists them.
 #![tactic(auto)]
 
 mod candidate;

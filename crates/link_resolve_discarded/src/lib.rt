@@ -1,4 +1,6 @@
 //! Which sections of the loaded regular objects of a link are left out, since another object's COMDAT group has theirs.
+//!
+//! Some of its public calls are for callers of the library alone, and no crate here makes them: docs/PORT.md lists them.
 #![tactic(auto)]
 
 mod candidates;

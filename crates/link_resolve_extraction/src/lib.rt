@@ -1,5 +1,7 @@
 //! The work of a link over its database of names, as threads share it: which parts of objects are read, what is found in each, and what
 //! that asks for; and what follows once all that is asked for was read.
+//!
+//! Some of its public calls are for callers of the library alone, and no crate here makes them: docs/PORT.md lists them.
 #![tactic(auto)]
 
 mod answer;

@@ -1,4 +1,6 @@
 //! The files of a link once it is known which objects are loaded, as a linker goes on with them: views that borrow from its groups.
+//!
+//! The program calls none of it: it is for those who use the crates without the program, as Wild's library has it (docs/PORT.md).
 #![tactic(auto)]
 
 mod loaded_places;

@@ -1,4 +1,6 @@
 //! The references that stay undefined, and what stands for them.
+//!
+//! Some of its public calls are for callers of the library alone, and no crate here makes them: docs/PORT.md lists them.
 #![tactic(auto)]
 
 mod asked_name;

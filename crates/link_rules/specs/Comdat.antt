@@ -36,7 +36,7 @@ pub record Comdat : Type 0 where
   pub place : GroupPlace
   pub signature : Bytes
 
--- of the COMDAT groups of one signature the first is kept
+-- of the COMDAT groups of one signature the first is kept: the gABI wants one of them and leaves open which, GNU ld and lld keep the first too
 abbrev pub kept_place : List Comdat → Bytes → Option GroupPlace
 kept_place comdats signature = least_place (map (λ c. c.place) (filter (λ c. bytes_eq c.signature signature) comdats))
 

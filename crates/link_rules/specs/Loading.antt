@@ -74,19 +74,21 @@ is_root w f = is_marked w.earlier.loaded f || is_required w f
 abbrev pub IsRoot : Stage → ℕ → Type 0
 IsRoot w f = IsTrue (is_root w f)
 
--- the object of a target, where that loads it: another one, and not both are shared
+-- the object of a target, where that loads it: another one, and not both are shared. What one shared object wants of another is left to the dynamic loader, as
+-- lld keeps an `--as-needed` library for the references of regular objects alone
 abbrev pub request_between : Stage → Symbol → ℕ → Option ℕ
 request_between w u t =
     if (is_shared u.origin && is_shared_at w t) || same_number (object_in u.origin) (object_of w t)
     then None else object_of w t
 
--- the object that the symbol of an id asks for: only a reference that is not weak asks for any
+-- the object that the symbol of an id asks for: only a reference that is not weak asks for any, since no archive member is extracted for a weak one (ELF gABI,
+-- "Symbol Table", `STB_WEAK`)
 abbrev pub request_of : Stage → ℕ → Symbol → Option ℕ
 request_of w s u =
     if is_reference u && not (entry_passes (λ e. is_weak e.binding) false u.origin)
     then option_and_then (request_between w u) (kept_target w s u) else None
 
--- some reference of f asks for g
+-- some reference of f asks for g, wherever both stand: archives are searched whatever their order, as lld and mold do, and GNU ld from left to right
 abbrev pub HasEdge : Stage → ℕ → ℕ → Type 0
 HasEdge w f g = (s : ℕ) × (u : Symbol) × (slice_get w.symbols s ≡ Some u) × (object_in u.origin ≡ Some f) × (request_of w s u ≡ Some g)
 

@@ -131,7 +131,8 @@ abbrev pub unless_none : List Bytes → Option LinkError
 unless_none [] = None
 unless_none (x ∷ xs) = Some (DuplicateSymbols (x ∷ xs))
 
--- the first cause that a batch brings before anything of it is loaded; each but the first batch is late for a version script
+-- the first cause that a batch brings before anything of it is loaded; each but the first batch is late for a version script, since what is local was
+-- told of earlier symbols without it
 abbrev pub batch_refusal : Bool → Stage → Batch → Option LinkError
 batch_refusal is_late before b = first_cause
     (linker_script_cause is_late (is_some (taken_text before.texts before.scripts)) (length before.scripts) b.scripts

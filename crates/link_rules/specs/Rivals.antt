@@ -74,7 +74,7 @@ reference_entry l s x =
 abbrev pub reference_table : Selection → List ℕ
 reference_table l = each_from (reference_entry l) 0 l.stage.symbols
 
--- where several stand in a list without a clash, each points to the choice
+-- where several stand in a list, each points to the choice. Of a list with a clash nothing is chosen: the link is refused for it
 abbrev pub settled_entry : Selection → List ℕ → List ℕ → ℕ → ℕ
 settled_entry l own entries old =
     if are_several own && is_none (clash l entries) then choice l entries (unwrap_or (first_of own) old) else old
@@ -91,7 +91,8 @@ plain_entry l table s x = settled_entry l (plain_list l.stage x) (plain_list l.s
 abbrev pub plain_table : Selection → List ℕ
 plain_table l = each_from (plain_entry l (reference_table l)) 0 l.stage.symbols
 
--- what an entry stands for among the definitions of a version: what it points to, unless that is dynamic
+-- what an entry stands for among the definitions of a version: what it points to, unless that is dynamic. So a definition whose plain name is settled doesn't
+-- compete with what it yielded to
 abbrev pub stand_in : Selection → List ℕ → ℕ → ℕ
 stand_in l table s = if is_dynamic l (slice_index table s) then s else slice_index table s
 

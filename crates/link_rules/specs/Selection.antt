@@ -29,7 +29,8 @@ loaded_target w marks s x = if is_reference x && is_origin_loaded marks x.origin
 abbrev pub is_discarded_place : List PlacedGroup → ℕ → Place → Bool
 is_discarded_place discarded f place = option_map_or (is_discarded_by discarded f) (section_of place) false
 
--- nothing is left of a symbol in an object that is not loaded, or in a discarded section
+-- nothing is left of a symbol in an object that is not loaded, or in a discarded section (ELF gABI, "Section Groups": the members of a group that isn't retained
+-- are discarded)
 abbrev pub surviving_origin : List Bool → List PlacedGroup → Origin → SymbolStrength
 surviving_origin marks discarded (in_prelude d) = Undefined
 surviving_origin marks discarded (in_object f shared e) =

@@ -27,7 +27,8 @@ mapped_in t name (Some version) = t.versioned name version
 abbrev pub unshared_in : NameTable → ℕ → List Candidate
 unshared_in t s = map (λ x. (x, t.strength x)) (filter (λ x. not (t.is_shared x)) (t.later s))
 
--- a reference that other files may not see passes by a shared symbol
+-- a reference that other files may not see passes by a shared symbol: what is hidden or protected is bound within its own component (ELF gABI, "Symbol
+-- Visibility"), so another definition of the name is looked for
 abbrev pub beside_in : Bool → NameTable → Bool → ℕ → Option ℕ
 beside_in weak_overrides_common t is_default s =
     if is_default || not (t.is_shared s) then Some s else pick weak_overrides_common (unshared_in t s)
@@ -63,6 +64,6 @@ target w u = target_in w.rules.weak_overrides_common (name_table w) (is_open u) 
 abbrev pub earlier_target : Stage → ℕ → Option ℕ
 earlier_target w s = option_map_or (λ t. t) (slice_get w.earlier.targets s) None
 
--- the symbol that a reference stands for: what it stood for after an earlier batch stays
+-- the symbol that a reference stands for: what it stood for after an earlier batch stays, since files were loaded for it
 abbrev pub kept_target : Stage → ℕ → Symbol → Option ℕ
 kept_target w s u = option_or (earlier_target w s) (target w u)

@@ -25,7 +25,7 @@ is_target_missing l u None = true
 is_target_missing l u (Some t) =
     not (is_loaded l.stage l.marks t) && (is_weak_symbol u || same_number (object_in u.origin) (object_of l.stage t))
 
--- a reference of a loaded object that stays undefined
+-- a reference of a loaded object that stays undefined: a weak one is then null (ELF gABI, "Symbol Table", `STB_WEAK`)
 abbrev pub stays_undefined : Selection → Numbered → Bool
 stays_undefined l u = is_reference u.1 && is_origin_loaded l.marks u.1.origin && is_target_missing l u.1 (target_of l u.0)
 
@@ -37,7 +37,7 @@ left_undefined l = filter (stays_undefined l) (enumerate_from 0 l.stage.symbols)
 abbrev pub asks_same : Symbol → Symbol → Bool
 asks_same u x = bytes_eq u.name x.name && same_version u.version x.version
 
--- the last that asks for the same: the records are walked from the greatest id down, so that the one met first stands for the others
+-- the last that asks for the same stands for the others
 abbrev pub last_alike : List Numbered → Symbol → Option ℕ
 last_alike left x = option_map (λ p. p.0) (last_of (filter (λ p. asks_same p.1 x) left))
 
@@ -45,7 +45,7 @@ last_alike left x = option_map (λ p. p.0) (last_of (filter (λ p. asks_same p.1
 abbrev pub is_last_alike : List Numbered → Numbered → Bool
 is_last_alike left u = is_number (last_alike left u.1) u.0
 
--- a plain name that marks the start or the end of a custom section
+-- a plain name that marks the start or the end of a custom section (GNU ld, `__start_SECNAME` and `__stop_SECNAME` of sections whose names are C identifiers)
 abbrev pub is_boundary : Stage → Symbol → Bool
 is_boundary w x = is_none x.version
     && list_any (λ section. bytes_eq x.name (codes "__start_" ++ section) || bytes_eq x.name (codes "__stop_" ++ section))
@@ -55,7 +55,7 @@ is_boundary w x = is_none x.version
 abbrev pub is_boundary_maker : Stage → List Numbered → Numbered → Bool
 is_boundary_maker w left u = is_boundary w u.1 && is_last_alike left u
 
--- the references for which new symbols are made, in the order of those: falling ids, as the records are walked
+-- the references for which new symbols are made, in the order of those: new symbols are numbered by falling reference
 abbrev pub boundary_makers : Stage → List Numbered → List Numbered
 boundary_makers w left = reverse (filter (is_boundary_maker w left) left)
 

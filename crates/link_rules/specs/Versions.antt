@@ -1,4 +1,4 @@
--- The version of each symbol of a shared output.
+-- The version of each symbol of a shared output (LSB, "Symbol Versioning": index 1 is the global one, and those of the script's versions follow).
 use Rattle.std.specs.Prelude.{ℕ, ◌==◌, ◌&&◌, List, filter_map, Bool, false, not, Option, Some, None, is_none, if◌then◌else◌, option_map, Result, Ok, Err}
 use Rattle.std.specs.List.{enumerate_from}
 use Rattle.link_input.specs.Entries.{is_local}

@@ -1,4 +1,5 @@
--- The strictest visibility among the definitions of a name counts for each of them; a script of the Rust form.
+-- The strictest visibility among the definitions of a name counts for each of them (ELF gABI, "Symbol Visibility": the most constraining one); a script of the
+-- Rust form.
 use Rattle.std.specs.Prelude.{ℕ, ◌&&◌, List, map, filter_map, fold, false, not, Option, Some, None, if◌then◌else◌, slice_get, slice_index}
 use Rattle.std.specs.Int.RustNames.{bit_or}
 use Rattle.std.specs.Option.{option_map_or}
@@ -21,7 +22,7 @@ use Rattle.link_rules.specs.Rivals.{plain_list, versioned_list, versioned_table,
 abbrev pub visibility_of : Stage → ℕ → Visibility
 visibility_of w s = option_map_or (λ x. visibility_in x.origin) (slice_get w.symbols s) Default
 
--- of symbols, loaded or not
+-- of symbols, loaded or not: the lists of names are made before anything is loaded
 abbrev pub strictest : Stage → List ℕ → Visibility
 strictest w entries = fold visibility.strictest Default (map (visibility_of w) entries)
 

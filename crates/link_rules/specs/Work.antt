@@ -13,7 +13,7 @@ use Rattle.link_rules.specs.Loading.{IsLoaded, is_root, request_of}
 use Rattle.link_rules.specs.Selection.{selection_of}
 use Rattle.link_rules.specs.Marking.{reference_marks, named_marks, flags_before, ended}
 
--- how many symbols an item has, but for the last of an object
+-- how many symbols an item has, but for the last of an object. It is no part of what a link means: any number has the same answer, and this one is Wild's
 abbrev pub item_size : ℕ
 item_size = 5000
 

@@ -1,5 +1,7 @@
 //! Version scripts and export lists, as Wild's library has them: which version a symbol has by the strongest match of its
 //! name, which symbols are exported, and which ones must be defined.
+//!
+//! Some of its public calls are for callers of the library alone, and no crate here makes them: docs/PORT.md lists them.
 #![tactic(auto)]
 
 mod export_list;

@@ -1,5 +1,7 @@
 //! The texts of version scripts and export lists, as GNU ld's VERSION command and Mach-O linkers have them and Wild's
 //! library reads them: their grammar, what is read of them, and the first fault of a text with its place.
+//!
+//! Some of its public calls are for callers of the library alone, and no crate here makes them: docs/PORT.md lists them.
 #![tactic(auto)]
 
 mod block;
