@@ -1,5 +1,5 @@
-//! The road that the program takes to threads: `link_symbols`. Each of these tests fails where one thread alone reads, where another gate is handed on, or where
-//! only one of the gate's two calls is made.
+//! The road that the program takes to threads: `link_symbols`. Where one thread alone reads, three of these tests fail. Where another gate is handed on, those
+//! that count what comes to the gate do. Where the gate's second call isn't made, the test fails that waits for an item that is read.
 
 use crate::gates::{Following, Meeting, Moment};
 use crate::loading::count_of;
