@@ -58,6 +58,7 @@ pub fn run_with_arguments<R: Threads + Sync, S: Source, K: Sink>(
     ensures nothing_read { ReadsNothing (words_of_arguments args) → S.left source.new ≡ S.left source.old }
     ensures read_no_further { GivesAtMost (S.left source.old) (S.left source.new) (2 ^ 28 + 1) }
     ensures turns { IsCalledAtMost (S.calls source.old) (S.calls source.new) (2 ^ 28 + 1) }
+    ensures memory { IfErr args (λ error. error_kind error ≡ ErrorKind.OutOfMemory → result ≡ Status.Memory) }
     ensures read_fault { result ≡ Status.ReadFault → Rose (S.faults source.old) (S.faults source.new) }
     ensures write_fault { result ≡ Status.WriteFault → Rose (K.faults sink.old) (K.faults sink.new) }
     ensures source_answered { result ≢ Status.WriteFault → IsOfWholeSource result → S.refusals source.new ≡ S.refusals source.old }

@@ -12,6 +12,7 @@ use std::process::Abort;
 use std::test::Fail;
 
 /// The value prints as this text.
+/// That it fails otherwise is left to the tests that call it: no clause says it.
 pub fn shows<D: fmt::Display>(
     rt: &impl Abort,
     alloc: Global,
@@ -23,6 +24,7 @@ pub fn shows<D: fmt::Display>(
 }
 
 /// A plain symbol of this name.
+/// What it holds is left to the tests that ask of it: no clause says it.
 pub fn symbol(
     alloc: Global,
     name: &[u8],
@@ -42,6 +44,7 @@ pub fn symbol(
 }
 
 /// An object of this name with these tables.
+/// What it holds is left to the tests that ask of it: no clause says it.
 pub fn object<P: Platform>(
     alloc: Global,
     name: &[u8],

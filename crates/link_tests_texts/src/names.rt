@@ -11,6 +11,7 @@ use std::process::Abort;
 use std::test::Fail;
 
 /// The value prints as this text.
+/// That it fails otherwise is left to the tests that call it: no clause says it.
 pub fn shows<D: fmt::Display>(
     rt: &impl Abort,
     alloc: Global,

@@ -1,5 +1,4 @@
-use Rattle.std.proofs.Common.{rules, ◌≡◌, ◌∙◌}
-use Rattle.link_program.specs.Arguments.{words_of_arguments}
+use Rattle.std.proofs.Common.{◌∙◌}
 use Rattle.link_program.proofs.arguments.run_with_arguments.Goals as goal
 
 -- what `run` says of the words holds of the arguments: these are the words
