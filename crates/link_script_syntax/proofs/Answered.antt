@@ -7,6 +7,7 @@ use Rattle.link_script_syntax.specs.declared.fault.ScriptFault.{ScriptFault}
 use Rattle.link_script_syntax.specs.declared.fault.ScriptFault.TheVariants as faults
 use Rattle.link_script_syntax.specs.declared.matcher.ParsedSymbolMatcher.{ParsedSymbolMatcher}
 use Rattle.link_script_syntax.specs.Entry.{entry_at, ReadsEntry, EntryIs}
+use Rattle.link_script_syntax.specs.declared.profile.ScriptProfile.{ScriptProfile}
 use Rattle.link_script_syntax.specs.Fault.{refuse, Refuses, Answers, IsRead}
 use Rattle.link_script_syntax.specs.Faults.{IsFaultOf, IsRefusedWith, EntryFails}
 use Rattle.link_script_syntax.specs.Grammar.{IsEntry}
@@ -51,25 +52,25 @@ answers_refuses {X} text read says fails j (Err e) p kind at f = refuses_by {A =
 
 -- ---- an entry at a place of a text
 
-abbrev Says : List ℕ → ParsedSymbolMatcher × List ℕ → Type 0
-Says here x = IsEntry here x.0 x.1
+abbrev Says : ScriptProfile → List ℕ → ParsedSymbolMatcher × List ℕ → Type 0
+Says profile here x = IsEntry profile here x.0 x.1
 
-pub entry_reads : (text here : List ℕ) (r : Result (ParsedSymbolMatcher × ℕ) ScriptFault) → ReadsEntry text r (entry_at here) → IfOk r (λ x. (rest : List ℕ) × IsEntry here x.0 rest × (x.1 + length rest ≡ length text))
-entry_reads text here (Ok x) p = (p.0, found (entry_at here) (Says here) (EntryFails here) (entry_judged here) (x.0, p.0) p.1, p.2)
-entry_reads text here (Err e) p = tt
+pub entry_reads : (profile : ScriptProfile) (text here : List ℕ) (r : Result (ParsedSymbolMatcher × ℕ) ScriptFault) → ReadsEntry text r (entry_at profile here) → IfOk r (λ x. (rest : List ℕ) × IsEntry profile here x.0 rest × (x.1 + length rest ≡ length text))
+entry_reads profile text here (Ok x) p = (p.0, found (entry_at profile here) (Says profile here) (EntryFails profile here) (entry_judged profile here) (x.0, p.0) p.1, p.2)
+entry_reads profile text here (Err e) p = tt
 
-pub entry_is : (text here : List ℕ) (entry : ParsedSymbolMatcher) (rest : List ℕ) (r : Result (ParsedSymbolMatcher × ℕ) ScriptFault) → IsEntry here entry rest → ReadsEntry text r (entry_at here) → EntryIs text entry rest r
-entry_is text here entry rest (Ok x) e p =
-    let same = pair_parts x.0 entry p.0 rest (ok_same {A = ParsedSymbolMatcher × List ℕ} (x.0, p.0) (entry, rest) (sym p.1 ∙ (entry_judged here).values (entry, rest) e)) in
+pub entry_is : (profile : ScriptProfile) (text here : List ℕ) (entry : ParsedSymbolMatcher) (rest : List ℕ) (r : Result (ParsedSymbolMatcher × ℕ) ScriptFault) → IsEntry profile here entry rest → ReadsEntry text r (entry_at profile here) → EntryIs text entry rest r
+entry_is profile text here entry rest (Ok x) e p =
+    let same = pair_parts x.0 entry p.0 rest (ok_same {A = ParsedSymbolMatcher × List ℕ} (x.0, p.0) (entry, rest) (sym p.1 ∙ (entry_judged profile here).values (entry, rest) e)) in
     (same.0, subst (λ (t : List ℕ). x.1 + length t ≡ length text) same.1 p.2)
-entry_is text here entry rest (Err faults.Memory) e p = tt
-entry_is text here entry rest (Err (faults.Text t)) e p =
-    never_both {A = ParsedSymbolMatcher × List ℕ} (entry, rest) (record { left = p.0; kind = t.kind }) (sym ((entry_judged here).values (entry, rest) e) ∙ p.2)
+entry_is profile text here entry rest (Err faults.Memory) e p = tt
+entry_is profile text here entry rest (Err (faults.Text t)) e p =
+    never_both {A = ParsedSymbolMatcher × List ℕ} (entry, rest) (record { left = p.0; kind = t.kind }) (sym ((entry_judged profile here).values (entry, rest) e) ∙ p.2)
 
-pub entry_refused : (text here : List ℕ) (r : Result (ParsedSymbolMatcher × ℕ) ScriptFault) → ReadsEntry text r (entry_at here) → IfErr r (λ e. IsFaultOf (EntryFails here) text e)
-entry_refused text here (Ok x) p = tt
-entry_refused text here (Err e) p = fault_is text (entry_at here) (Says here) (EntryFails here) (entry_judged here) e p
+pub entry_refused : (profile : ScriptProfile) (text here : List ℕ) (r : Result (ParsedSymbolMatcher × ℕ) ScriptFault) → ReadsEntry text r (entry_at profile here) → IfErr r (λ e. IsFaultOf (EntryFails profile here) text e)
+entry_refused profile text here (Ok x) p = tt
+entry_refused profile text here (Err e) p = fault_is text (entry_at profile here) (Says profile here) (EntryFails profile here) (entry_judged profile here) e p
 
-pub entry_refuses : (text here : List ℕ) (r : Result (ParsedSymbolMatcher × ℕ) ScriptFault) → ReadsEntry text r (entry_at here) → (kind : ScriptErrorKind) (at : List ℕ) → EntryFails here kind at → IsRefusedWith kind at text r
-entry_refuses text here (Ok x) p kind at f = never_both {A = ParsedSymbolMatcher × List ℕ} (x.0, p.0) (record { left = length at; kind = kind }) (sym p.1 ∙ (entry_judged here).faults kind at f)
-entry_refuses text here (Err e) p kind at f = refuses_by {A = ParsedSymbolMatcher × List ℕ} (ParsedSymbolMatcher × ℕ) text (entry_at here) kind at ((entry_judged here).faults kind at f) e p
+pub entry_refuses : (profile : ScriptProfile) (text here : List ℕ) (r : Result (ParsedSymbolMatcher × ℕ) ScriptFault) → ReadsEntry text r (entry_at profile here) → (kind : ScriptErrorKind) (at : List ℕ) → EntryFails profile here kind at → IsRefusedWith kind at text r
+entry_refuses profile text here (Ok x) p kind at f = never_both {A = ParsedSymbolMatcher × List ℕ} (x.0, p.0) (record { left = length at; kind = kind }) (sym p.1 ∙ (entry_judged profile here).faults kind at f)
+entry_refuses profile text here (Err e) p kind at f = refuses_by {A = ParsedSymbolMatcher × List ℕ} (ParsedSymbolMatcher × ℕ) text (entry_at profile here) kind at ((entry_judged profile here).faults kind at f) e p

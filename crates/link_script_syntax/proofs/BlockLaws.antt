@@ -10,7 +10,10 @@ use Rattle.link_script_syntax.specs.declared.fault.ScriptErrorKind.TheVariants.{
 use Rattle.link_script_syntax.specs.declared.matcher.SymbolMatcher.{SymbolMatcher}
 use Rattle.link_script_syntax.specs.declared.matcher.ParsedSymbolMatcher.{ParsedSymbolMatcher}
 use Rattle.link_script_syntax.specs.declared.matcher.ParsedSymbolMatcher.TheVariants.{Single, Multiple, CxxMatchers}
+use Rattle.link_script_syntax.specs.declared.profile.ScriptProfile.{ScriptProfile}
+use Rattle.link_script_syntax.specs.declared.profile.TokenEnd.TheVariants.{Semicolon, Brace}
 use Rattle.link_script_syntax.specs.Fault.{◌>>=◌, refuse}
+use Rattle.link_script_syntax.specs.Profile.{token_end}
 use Rattle.link_script_syntax.specs.Words.{extern_word, word_of, c_word, cxx_word, open_word, close_word}
 use Rattle.link_script_syntax.specs.Many.{alone}
 use Rattle.link_script_syntax.specs.Blanks.{Skipped, Unclosed}
@@ -18,7 +21,7 @@ use Rattle.link_script_syntax.specs.Skip.{skip, strips}
 use Rattle.link_script_syntax.specs.Token.{token_at}
 use Rattle.link_script_syntax.specs.Block.{or_else, language_at, extern_text, inner_extern, close_place, semicolon_before, closed_token, block_turn, block_at}
 use Rattle.link_script_syntax.specs.Entry.{of_language, extern_block, extern_at, entry_at}
-use Rattle.link_script_syntax.specs.Grammar.{NotHere, NoClose, Repeats, block_stop, BlockTurn, IsExtern, IsEntry}
+use Rattle.link_script_syntax.specs.Grammar.{NotHere, NoClose, Repeats, block_end, BlockTurn, IsExtern, IsEntry}
 use Rattle.link_script_syntax.specs.Faults as faults
 use Rattle.link_script_syntax.specs.Faults.{TokenFails, NoLanguage, IsNested, known, unknown, BlockTurnFails, BlockFails, ExternFails, EntryFails}
 use Rattle.link_script_syntax.proofs.Skipping.{skip_is, skip_fails, skip_or_not}
@@ -29,13 +32,13 @@ use Rattle.link_script_syntax.proofs.Repeated.{TurnJudged, repeats_judged, repea
 
 -- ---- a name or pattern in a block
 
-stop_is : (text inner after : List ℕ) → text ≡ inner ++ 125 ∷ 59 ∷ after → cond (semicolon_before text (length inner)) 59 125 ≡ block_stop inner
-stop_is text inner after whole = ap (λ (b : Bool). cond b 59 125) (subst (λ (t : List ℕ). semicolon_before t (length inner) ≡ list_any (λ c. c == 59) inner) (sym whole) (before_is inner after))
+stop_is : (text inner after : List ℕ) → text ≡ inner ++ 125 ∷ 59 ∷ after → cond (semicolon_before text (length inner)) Semicolon Brace ≡ block_end inner
+stop_is text inner after whole = ap (λ (b : Bool). cond b Semicolon Brace) (subst (λ (t : List ℕ). semicolon_before t (length inner) ≡ list_any (λ c. c == 59) inner) (sym whole) (before_is inner after))
 
 abbrev as_item : SymbolMatcher × List ℕ → Result (Option SymbolMatcher × List ℕ) Fault
 as_item m = Ok (Some m.0, m.1)
 
-closed_is : (text inner after : List ℕ) → text ≡ inner ++ 125 ∷ 59 ∷ after → closed_token text (length inner) ≡ (token_at (block_stop inner) text >>= as_item)
+closed_is : (text inner after : List ℕ) → text ≡ inner ++ 125 ∷ 59 ∷ after → closed_token text (length inner) ≡ (token_at (block_end inner) text >>= as_item)
 closed_is text inner after whole = ap (λ s. token_at s text >>= as_item) (stop_is text inner after whole)
 
 -- ---- languages
@@ -97,7 +100,7 @@ goes_on here unended plain =
     or_else_none (strips close_word here) (λ rest. skip rest >>= λ after. Ok (None, after)) _ (strips_none close_word here unended)
     ∙ or_else_none (strips extern_word here) (λ rest. refuse (inner_extern rest) here) _ (strips_none extern_word here plain)
 
-token_here : (here inner after : List ℕ) → NotHere close_word here → NotHere extern_word here → here ≡ inner ++ 125 ∷ 59 ∷ after → NoClose inner → inner_turn here ≡ (token_at (block_stop inner) here >>= as_item)
+token_here : (here inner after : List ℕ) → NotHere close_word here → NotHere extern_word here → here ≡ inner ++ 125 ∷ 59 ∷ after → NoClose inner → inner_turn here ≡ (token_at (block_end inner) here >>= as_item)
 token_here here inner after unended plain whole first =
     goes_on here unended plain
     ∙ or_else_some (close_place here) (λ place. closed_token here place) _ (length inner) (ap close_place whole ∙ close_is inner after first)
@@ -109,7 +112,7 @@ block_turn_only front text None rest t =
 block_turn_only front text (Some m) rest t =
     turn_is text t.0 (Ok (Some m, rest)) t.1
     (token_here t.0 t.4.inner t.4.after t.2 t.3 t.4.whole t.4.first
-    ∙ bind_is (token_at (block_stop t.4.inner) t.0) as_item (m, rest) (Ok (Some m, rest)) (token_only (block_stop t.4.inner) t.0 m rest t.4.token) refl)
+    ∙ bind_is (token_at (block_end t.4.inner) t.0) as_item (m, rest) (Ok (Some m, rest)) (token_only (block_end t.4.inner) t.0 m rest t.4.token) refl)
 
 open_of : (text : List ℕ) → NoClose text → NotHere close_word text
 open_of text free rest is = let k : NoClose (close_word ++ rest) = subst NoClose is free in k.0 (refl, refl)
@@ -124,7 +127,7 @@ block_turn_fails text kind at (faults.endless at' s plain never) =
 block_turn_fails text kind at (faults.token here inner after at' kind' s unended plain whole first bad) =
     turn_is text here (refuse kind at) s
     (token_here here inner after unended plain whole first
-    ∙ bind_err (token_at (block_stop inner) here) as_item (record { left = length at; kind = kind }) (token_fails (block_stop inner) here kind at bad))
+    ∙ bind_err (token_at (block_end inner) here) as_item (record { left = length at; kind = kind }) (token_fails (block_end inner) here kind at bad))
 
 abbrev IsTurn : List SymbolMatcher → List ℕ → Option SymbolMatcher × List ℕ → Type 0
 IsTurn front text t = BlockTurn front text t.0 t.1
@@ -142,7 +145,7 @@ nested_either front text rest s = elim (language_or_not rest) as (λ _. Either (
 ]
 
 token_either : (front : List SymbolMatcher) (text here inner after : List ℕ) → Skipped text here → NotHere close_word here → NotHere extern_word here → here ≡ inner ++ 125 ∷ 59 ∷ after → NoClose inner → Either (IsTurn front text) (BlockTurnFails text)
-token_either front text here inner after s unended plain whole first = elim ((token_judged (block_stop inner) here).either) as (λ _. Either (IsTurn front text) (BlockTurnFails text)) [
+token_either front text here inner after s unended plain whole first = elim ((token_judged (block_end inner) here).either) as (λ _. Either (IsTurn front text) (BlockTurnFails text)) [
   | inl t ↦ inl ((Some t.0.0, t.0.1), (here, s, unended, plain, record { inner = inner; after = after; whole = whole; first = first; token = t.1 }))
   | inr f ↦ inr (f.0, f.1, faults.token here inner after f.1 f.0 s unended plain whole first f.2)
 ]
@@ -194,10 +197,10 @@ extern_shorter language ms text rest x =
     let r = repeats_shorter (alone block_turn) BlockTurn (λ front. BlockTurnFails) block_turn_judged block_turn_ends ms [] x.1 rest x.4 in
     omega (arith, length-append language x.0)
 
-pub entry_shorter : (text : List ℕ) (e : ParsedSymbolMatcher) (rest : List ℕ) → IsEntry text e rest → length rest < length text
-entry_shorter text (Single m) rest x = token_shorter x.1
-entry_shorter text (Multiple ms) rest x = extern_shorter c_word ms text rest x
-entry_shorter text (CxxMatchers ms) rest x = extern_shorter cxx_word ms text rest x
+pub entry_shorter : (profile : ScriptProfile) (text : List ℕ) (e : ParsedSymbolMatcher) (rest : List ℕ) → IsEntry profile text e rest → length rest < length text
+entry_shorter profile text (Single m) rest x = token_shorter x.1
+entry_shorter profile text (Multiple ms) rest x = extern_shorter c_word ms text rest x
+entry_shorter profile text (CxxMatchers ms) rest x = extern_shorter cxx_word ms text rest x
 
 abbrev as_block : Language → List SymbolMatcher × List ℕ → Result (ParsedSymbolMatcher × List ℕ) Fault
 as_block l ms = Ok (of_language l ms.0, ms.1)
@@ -266,62 +269,62 @@ extern_judged text = record {
 pub extern_of : (text : List ℕ) (l : Language) (ms : List SymbolMatcher) (rest : List ℕ) → IsExtern (word_of l) ms text rest → (behind : List ℕ) × (text ≡ extern_word ++ behind) × IsBehindExtern behind (of_language l ms, rest)
 extern_of text l ms rest x = (word_of l ++ x.0, x.2, (l, ms, x.0, x.1, refl, refl, x.3, x.4))
 
-extern_entry : (text : List ℕ) (l : Language) (behind inside : List ℕ) (ms : List SymbolMatcher) (rest : List ℕ) → text ≡ extern_word ++ (word_of l ++ behind) → Skipped behind (open_word ++ inside) → Repeats BlockTurn [] ms inside rest → IsEntry text (of_language l ms) rest
-extern_entry text languages.C behind inside ms rest whole s r = (behind, inside, whole, s, r)
-extern_entry text languages.Cxx behind inside ms rest whole s r = (behind, inside, whole, s, r)
+extern_entry : (profile : ScriptProfile) (text : List ℕ) (l : Language) (behind inside : List ℕ) (ms : List SymbolMatcher) (rest : List ℕ) → text ≡ extern_word ++ (word_of l ++ behind) → Skipped behind (open_word ++ inside) → Repeats BlockTurn [] ms inside rest → IsEntry profile text (of_language l ms) rest
+extern_entry profile text languages.C behind inside ms rest whole s r = (behind, inside, whole, s, r)
+extern_entry profile text languages.Cxx behind inside ms rest whole s r = (behind, inside, whole, s, r)
 
 -- an extern block is an entry
-pub entry_of : (text behind : List ℕ) (x : ParsedSymbolMatcher × List ℕ) → text ≡ extern_word ++ behind → IsBehindExtern behind x → IsEntry text x.0 x.1
-entry_of text behind x whole b =
-    subst (λ (e : ParsedSymbolMatcher). IsEntry text e x.1) (sym b.4) (extern_entry text b.0 b.2 b.3 b.1 x.1 (whole ∙ ap (λ (t : List ℕ). extern_word ++ t) b.5) b.6 b.7)
+pub entry_of : (profile : ScriptProfile) (text behind : List ℕ) (x : ParsedSymbolMatcher × List ℕ) → text ≡ extern_word ++ behind → IsBehindExtern behind x → IsEntry profile text x.0 x.1
+entry_of profile text behind x whole b =
+    subst (λ (e : ParsedSymbolMatcher). IsEntry profile text e x.1) (sym b.4) (extern_entry profile text b.0 b.2 b.3 b.1 x.1 (whole ∙ ap (λ (t : List ℕ). extern_word ++ t) b.5) b.6 b.7)
 
 abbrev as_entry : SymbolMatcher × List ℕ → Result (ParsedSymbolMatcher × List ℕ) Fault
 as_entry m = Ok (Single m.0, m.1)
 
-block_here : (text behind : List ℕ) → text ≡ extern_word ++ behind → entry_at text ≡ extern_at behind
+block_here : (profile : ScriptProfile) (text behind : List ℕ) → text ≡ extern_word ++ behind → entry_at profile text ≡ extern_at behind
 unfolding entry_at
-block_here text behind is = or_else_some (strips extern_word text) (λ rest. extern_at rest) _ behind (strips_is extern_word text behind is)
+block_here profile text behind is = or_else_some (strips extern_word text) (λ rest. extern_at rest) _ behind (strips_is extern_word text behind is)
 
-token_is_here : (text : List ℕ) → NotHere extern_word text → entry_at text ≡ (token_at 59 text >>= as_entry)
+token_is_here : (profile : ScriptProfile) (text : List ℕ) → NotHere extern_word text → entry_at profile text ≡ (token_at (token_end profile) text >>= as_entry)
 unfolding entry_at
-token_is_here text plain = or_else_none (strips extern_word text) (λ rest. extern_at rest) _ (strips_none extern_word text plain)
+token_is_here profile text plain = or_else_none (strips extern_word text) (λ rest. extern_at rest) _ (strips_none extern_word text plain)
 
-block_only : (text : List ℕ) (l : Language) (ms : List SymbolMatcher) (rest : List ℕ) → IsExtern (word_of l) ms text rest → entry_at text ≡ Ok (of_language l ms, rest)
-block_only text l ms rest x = let b = extern_of text l ms rest x in block_here text b.0 b.1 ∙ extern_only b.0 (of_language l ms, rest) b.2
+block_only : (profile : ScriptProfile) (text : List ℕ) (l : Language) (ms : List SymbolMatcher) (rest : List ℕ) → IsExtern (word_of l) ms text rest → entry_at profile text ≡ Ok (of_language l ms, rest)
+block_only profile text l ms rest x = let b = extern_of text l ms rest x in block_here profile text b.0 b.1 ∙ extern_only b.0 (of_language l ms, rest) b.2
 
-entry_only : (text : List ℕ) (e : ParsedSymbolMatcher) (rest : List ℕ) → IsEntry text e rest → entry_at text ≡ Ok (e, rest)
-entry_only text (Single m) rest x = token_is_here text x.0 ∙ bind_is (token_at 59 text) as_entry (m, rest) (Ok (Single m, rest)) (token_only 59 text m rest x.1) refl
-entry_only text (Multiple ms) rest x = block_only text languages.C ms rest x
-entry_only text (CxxMatchers ms) rest x = block_only text languages.Cxx ms rest x
+entry_only : (profile : ScriptProfile) (text : List ℕ) (e : ParsedSymbolMatcher) (rest : List ℕ) → IsEntry profile text e rest → entry_at profile text ≡ Ok (e, rest)
+entry_only profile text (Single m) rest x = token_is_here profile text x.0 ∙ bind_is (token_at (token_end profile) text) as_entry (m, rest) (Ok (Single m, rest)) (token_only (token_end profile) text m rest x.1) refl
+entry_only profile text (Multiple ms) rest x = block_only profile text languages.C ms rest x
+entry_only profile text (CxxMatchers ms) rest x = block_only profile text languages.Cxx ms rest x
 
-entry_fails : (text : List ℕ) (kind : ScriptErrorKind) (at : List ℕ) → EntryFails text kind at → entry_at text ≡ refuse kind at
-entry_fails text kind at (faults.block rest at' kind' is f) = block_here text rest is ∙ extern_fails rest kind at f
-entry_fails text kind at (faults.token at' kind' plain f) = token_is_here text plain ∙ bind_err (token_at 59 text) as_entry (record { left = length at; kind = kind }) (token_fails 59 text kind at f)
+entry_fails : (profile : ScriptProfile) (text : List ℕ) (kind : ScriptErrorKind) (at : List ℕ) → EntryFails profile text kind at → entry_at profile text ≡ refuse kind at
+entry_fails profile text kind at (faults.block rest at' kind' is f) = block_here profile text rest is ∙ extern_fails rest kind at f
+entry_fails profile text kind at (faults.token at' kind' plain f) = token_is_here profile text plain ∙ bind_err (token_at (token_end profile) text) as_entry (record { left = length at; kind = kind }) (token_fails (token_end profile) text kind at f)
 
-abbrev IsEntryHere : List ℕ → ParsedSymbolMatcher × List ℕ → Type 0
-IsEntryHere text x = IsEntry text x.0 x.1
+abbrev IsEntryHere : ScriptProfile → List ℕ → ParsedSymbolMatcher × List ℕ → Type 0
+IsEntryHere profile text x = IsEntry profile text x.0 x.1
 
-block_either : (text behind : List ℕ) → text ≡ extern_word ++ behind → Either (IsEntryHere text) (EntryFails text)
-block_either text behind is = elim (extern_either behind) as (λ _. Either (IsEntryHere text) (EntryFails text)) [
-  | inl b ↦ inl (b.0, entry_of text behind b.0 is b.1)
+block_either : (profile : ScriptProfile) (text behind : List ℕ) → text ≡ extern_word ++ behind → Either (IsEntryHere profile text) (EntryFails profile text)
+block_either profile text behind is = elim (extern_either behind) as (λ _. Either (IsEntryHere profile text) (EntryFails profile text)) [
+  | inl b ↦ inl (b.0, entry_of profile text behind b.0 is b.1)
   | inr f ↦ inr (f.0, f.1, faults.block behind f.1 f.0 is f.2)
 ]
 
-plain_either : (text : List ℕ) → NotHere extern_word text → Either (IsEntryHere text) (EntryFails text)
-plain_either text plain = elim ((token_judged 59 text).either) as (λ _. Either (IsEntryHere text) (EntryFails text)) [
+plain_either : (profile : ScriptProfile) (text : List ℕ) → NotHere extern_word text → Either (IsEntryHere profile text) (EntryFails profile text)
+plain_either profile text plain = elim ((token_judged (token_end profile) text).either) as (λ _. Either (IsEntryHere profile text) (EntryFails profile text)) [
   | inl t ↦ inl ((Single t.0.0, t.0.1), (plain, t.1))
   | inr f ↦ inr (f.0, f.1, faults.token f.1 f.0 plain f.2)
 ]
 
-entry_either : (text : List ℕ) → Either (IsEntryHere text) (EntryFails text)
-entry_either text = elim (word_or_not extern_word text) as (λ _. Either (IsEntryHere text) (EntryFails text)) [
-  | inl x ↦ block_either text x.0 x.1
-  | inr plain ↦ plain_either text plain
+entry_either : (profile : ScriptProfile) (text : List ℕ) → Either (IsEntryHere profile text) (EntryFails profile text)
+entry_either profile text = elim (word_or_not extern_word text) as (λ _. Either (IsEntryHere profile text) (EntryFails profile text)) [
+  | inl x ↦ block_either profile text x.0 x.1
+  | inr plain ↦ plain_either profile text plain
 ]
 
-pub entry_judged : (text : List ℕ) → Judges (entry_at text) (λ x. IsEntry text x.0 x.1) (EntryFails text)
-entry_judged text = record {
-  values = λ x e. entry_only text x.0 x.1 e;
-  faults = entry_fails text;
-  either = entry_either text;
+pub entry_judged : (profile : ScriptProfile) (text : List ℕ) → Judges (entry_at profile text) (λ x. IsEntry profile text x.0 x.1) (EntryFails profile text)
+entry_judged profile text = record {
+  values = λ x e. entry_only profile text x.0 x.1 e;
+  faults = entry_fails profile text;
+  either = entry_either profile text;
 }

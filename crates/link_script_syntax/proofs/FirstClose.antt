@@ -3,6 +3,7 @@ use Rattle.std.proofs.Common.{◌≡◌, ℕ, suc, ◌-◌, ◌≤◌, ◌==◌,
 use Rattle.std.specs.Option.{option_map}
 use Rattle.std.proofs.lemmas.Option.{same_Some}
 use Rattle.link_script_syntax.specs.declared.matcher.SymbolMatcher.{SymbolMatcher}
+use Rattle.link_script_syntax.specs.declared.profile.TokenEnd.{TokenEnd}
 use Rattle.link_script_syntax.specs.Blanks.{Piece, blank, line, block, InFront, Skipped}
 use Rattle.link_script_syntax.specs.Token.{IsToken}
 use Rattle.link_script_syntax.specs.Block.{is_close, close_place, StillFirst}
@@ -51,6 +52,6 @@ past_semicolon known c rest true first = past_byte known c rest first
 past_semicolon known c rest false first = first
 
 -- behind a token
-pub past_token : (known : Option ℕ) (stop : ℕ) (text : List ℕ) (m : SymbolMatcher) (rest : List ℕ) → IsToken stop text m rest → StillFirst known text → StillFirst known rest
-past_token known stop text m rest t first =
-    subst (λ r. StillFirst known r) (sym t.follows) (past_semicolon known stop t.after (stop == 59) (past_front known text t.bytes (stop ∷ t.after) t.whole first))
+pub past_token : (known : Option ℕ) (end : TokenEnd) (text : List ℕ) (m : SymbolMatcher) (rest : List ℕ) → IsToken end text m rest → StillFirst known text → StillFirst known rest
+past_token known end text m rest t first =
+    subst (λ r. StillFirst known r) (sym t.follows) (past_semicolon known t.stop t.after (t.stop == 59) (past_front known text t.bytes (t.stop ∷ t.after) t.whole first))

@@ -10,6 +10,8 @@ use Rattle.link_script_syntax.specs.declared.fault.ScriptErrorKind.TheVariants.{
 use Rattle.link_script_syntax.specs.declared.matcher.SymbolMatcher.{SymbolMatcher}
 use Rattle.link_script_syntax.specs.declared.matcher.ParsedSymbolMatcher.{ParsedSymbolMatcher}
 use Rattle.link_script_syntax.specs.declared.matcher.ParsedSymbolMatcher.TheVariants.{Single, Multiple, CxxMatchers}
+use Rattle.link_script_syntax.specs.declared.profile.ScriptProfile.{ScriptProfile}
+use Rattle.link_script_syntax.specs.declared.profile.ScriptProfile.TheVariants.{Wild}
 use Rattle.link_script_syntax.specs.Fault.{◌>>=◌, refuse}
 use Rattle.link_script_syntax.specs.Words.{extern_word, open_word, close_word}
 use Rattle.link_script_syntax.specs.Many.{alone}
@@ -39,137 +41,137 @@ use Rattle.link_script_syntax.proofs.ScriptLaws.{end_judged}
 abbrev as_item : ParsedSymbolMatcher × List ℕ → Result (Option ParsedSymbolMatcher × List ℕ) Fault
 as_item e = Ok (Some e.0, e.1)
 
-abbrev entry_turn : List ℕ → Result (Option ParsedSymbolMatcher × List ℕ) Fault
-entry_turn text = entry_at text >>= as_item
+abbrev entry_turn : ScriptProfile → List ℕ → Result (Option ParsedSymbolMatcher × List ℕ) Fault
+entry_turn profile text = entry_at profile text >>= as_item
 
 -- behind the blanks of a turn
-abbrev inner_turn : List ℕ → Result (Option ParsedSymbolMatcher × List ℕ) Fault
-inner_turn text = or_else (strips close_word text) (λ rest. Ok (None, rest)) (entry_turn text)
+abbrev inner_turn : ScriptProfile → List ℕ → Result (Option ParsedSymbolMatcher × List ℕ) Fault
+inner_turn profile text = or_else (strips close_word text) (λ rest. Ok (None, rest)) (entry_turn profile text)
 
-turn_is : (text here : List ℕ) (r : Result (Option ParsedSymbolMatcher × List ℕ) Fault) → Skipped text here → inner_turn here ≡ r → list_turn text ≡ r
+turn_is : (profile : ScriptProfile) (text here : List ℕ) (r : Result (Option ParsedSymbolMatcher × List ℕ) Fault) → Skipped text here → inner_turn profile here ≡ r → list_turn profile text ≡ r
 unfolding list_turn
-turn_is text here r s is = bind_is (skip text) inner_turn here r (skip_is text here s) is
+turn_is profile text here r s is = bind_is (skip text) (inner_turn profile) here r (skip_is text here s) is
 
-turn_unclosed : (text at : List ℕ) → Unclosed text at → list_turn text ≡ refuse Syntax at
+turn_unclosed : (profile : ScriptProfile) (text at : List ℕ) → Unclosed text at → list_turn profile text ≡ refuse Syntax at
 unfolding list_turn
-turn_unclosed text at u = bind_err (skip text) inner_turn (record { left = length at; kind = Syntax }) (skip_fails text at u)
+turn_unclosed profile text at u = bind_err (skip text) (inner_turn profile) (record { left = length at; kind = Syntax }) (skip_fails text at u)
 
-entry_here : (here : List ℕ) → NotHere close_word here → inner_turn here ≡ entry_turn here
-entry_here here unended = or_else_none (strips close_word here) (λ rest. Ok (None, rest)) (entry_turn here) (strips_none close_word here unended)
+entry_here : (profile : ScriptProfile) (here : List ℕ) → NotHere close_word here → inner_turn profile here ≡ entry_turn profile here
+entry_here profile here unended = or_else_none (strips close_word here) (λ rest. Ok (None, rest)) (entry_turn profile here) (strips_none close_word here unended)
 
-turn_only : (front : List ParsedSymbolMatcher) (text : List ℕ) (o : Option ParsedSymbolMatcher) (rest : List ℕ) → ListTurn front text o rest → list_turn text ≡ Ok (o, rest)
-turn_only front text None rest t = turn_is text (close_word ++ rest) (Ok (None, rest)) t refl
-turn_only front text (Some e) rest t =
-    turn_is text t.0 (Ok (Some e, rest)) t.1 (entry_here t.0 t.2 ∙ bind_is (entry_at t.0) as_item (e, rest) (Ok (Some e, rest)) ((entry_judged t.0).values (e, rest) t.3) refl)
+turn_only : (profile : ScriptProfile) (front : List ParsedSymbolMatcher) (text : List ℕ) (o : Option ParsedSymbolMatcher) (rest : List ℕ) → ListTurn profile front text o rest → list_turn profile text ≡ Ok (o, rest)
+turn_only profile front text None rest t = turn_is profile text (close_word ++ rest) (Ok (None, rest)) t refl
+turn_only profile front text (Some e) rest t =
+    turn_is profile text t.0 (Ok (Some e, rest)) t.1 (entry_here profile t.0 t.2 ∙ bind_is (entry_at profile t.0) as_item (e, rest) (Ok (Some e, rest)) ((entry_judged profile t.0).values (e, rest) t.3) refl)
 
-turn_fails : (text : List ℕ) (kind : ScriptErrorKind) (at : List ℕ) → ListTurnFails text kind at → list_turn text ≡ refuse kind at
-turn_fails text kind at (faults.comment at' u) = turn_unclosed text at u
-turn_fails text kind at (faults.entry here at' kind' s unended f) =
-    turn_is text here (refuse kind at) s (entry_here here unended ∙ bind_err (entry_at here) as_item (record { left = length at; kind = kind }) ((entry_judged here).faults kind at f))
+turn_fails : (profile : ScriptProfile) (text : List ℕ) (kind : ScriptErrorKind) (at : List ℕ) → ListTurnFails profile text kind at → list_turn profile text ≡ refuse kind at
+turn_fails profile text kind at (faults.comment at' u) = turn_unclosed profile text at u
+turn_fails profile text kind at (faults.entry here at' kind' s unended f) =
+    turn_is profile text here (refuse kind at) s (entry_here profile here unended ∙ bind_err (entry_at profile here) as_item (record { left = length at; kind = kind }) ((entry_judged profile here).faults kind at f))
 
-abbrev IsTurn : List ParsedSymbolMatcher → List ℕ → Option ParsedSymbolMatcher × List ℕ → Type 0
-IsTurn front text t = ListTurn front text t.0 t.1
+abbrev IsTurn : ScriptProfile → List ParsedSymbolMatcher → List ℕ → Option ParsedSymbolMatcher × List ℕ → Type 0
+IsTurn profile front text t = ListTurn profile front text t.0 t.1
 
-entry_either : (front : List ParsedSymbolMatcher) (text here : List ℕ) → Skipped text here → NotHere close_word here → Either (IsTurn front text) (ListTurnFails text)
-entry_either front text here s unended = elim ((entry_judged here).either) as (λ _. Either (IsTurn front text) (ListTurnFails text)) [
+entry_either : (profile : ScriptProfile) (front : List ParsedSymbolMatcher) (text here : List ℕ) → Skipped text here → NotHere close_word here → Either (IsTurn profile front text) (ListTurnFails profile text)
+entry_either profile front text here s unended = elim ((entry_judged profile here).either) as (λ _. Either (IsTurn profile front text) (ListTurnFails profile text)) [
   | inl e ↦ inl ((Some e.0.0, e.0.1), (here, s, unended, e.1))
   | inr f ↦ inr (f.0, f.1, faults.entry here f.1 f.0 s unended f.2)
 ]
 
-here_either : (front : List ParsedSymbolMatcher) (text here : List ℕ) → Skipped text here → Either (IsTurn front text) (ListTurnFails text)
-here_either front text here s = elim (word_or_not close_word here) as (λ _. Either (IsTurn front text) (ListTurnFails text)) [
+here_either : (profile : ScriptProfile) (front : List ParsedSymbolMatcher) (text here : List ℕ) → Skipped text here → Either (IsTurn profile front text) (ListTurnFails profile text)
+here_either profile front text here s = elim (word_or_not close_word here) as (λ _. Either (IsTurn profile front text) (ListTurnFails profile text)) [
   | inl ends ↦ inl ((None, ends.0), subst (λ (t : List ℕ). Skipped text t) ends.1 s)
-  | inr unended ↦ entry_either front text here s unended
+  | inr unended ↦ entry_either profile front text here s unended
 ]
 
-turn_either : (front : List ParsedSymbolMatcher) (text : List ℕ) → Either (IsTurn front text) (ListTurnFails text)
-turn_either front text = elim (skip_or_not text) as (λ _. Either (IsTurn front text) (ListTurnFails text)) [
-  | inl s ↦ here_either front text s.0 s.1
+turn_either : (profile : ScriptProfile) (front : List ParsedSymbolMatcher) (text : List ℕ) → Either (IsTurn profile front text) (ListTurnFails profile text)
+turn_either profile front text = elim (skip_or_not text) as (λ _. Either (IsTurn profile front text) (ListTurnFails profile text)) [
+  | inl s ↦ here_either profile front text s.0 s.1
   | inr u ↦ inr (Syntax, u.0, faults.comment u.0 u.1)
 ]
 
-turn_shortens : (front : List ParsedSymbolMatcher) (text : List ℕ) (e : ParsedSymbolMatcher) (after : List ℕ) → ListTurn front text (Some e) after → length after < length text
-turn_shortens front text e after t = let s = skipped_shorter text t.0 t.1 in let k = entry_shorter t.0 e after t.3 in omega arith
+turn_shortens : (profile : ScriptProfile) (front : List ParsedSymbolMatcher) (text : List ℕ) (e : ParsedSymbolMatcher) (after : List ℕ) → ListTurn profile front text (Some e) after → length after < length text
+turn_shortens profile front text e after t = let s = skipped_shorter text t.0 t.1 in let k = entry_shorter profile t.0 e after t.3 in omega arith
 
-turn_judged : TurnJudged (alone list_turn) ListTurn (λ front. ListTurnFails)
-turn_judged = record {
+turn_judged : (profile : ScriptProfile) → TurnJudged (alone (list_turn profile)) (ListTurn profile) (λ front. ListTurnFails profile)
+turn_judged profile = record {
   judged = λ front text. record {
-    values = λ t said. turn_only front text t.0 t.1 said;
-    faults = turn_fails text;
-    either = turn_either front text;
+    values = λ t said. turn_only profile front text t.0 t.1 said;
+    faults = turn_fails profile text;
+    either = turn_either profile front text;
   };
-  shortens = turn_shortens;
+  shortens = turn_shortens profile;
 }
 
 -- ---- whole lists
 
-abbrev AreEntries : List ℕ → List ParsedSymbolMatcher × List ℕ → Type 0
-AreEntries inside t = Repeats ListTurn [] t.0 inside t.1
+abbrev AreEntries : ScriptProfile → List ℕ → List ParsedSymbolMatcher × List ℕ → Type 0
+AreEntries profile inside t = Repeats (ListTurn profile) [] t.0 inside t.1
 
-abbrev SomeEntryFails : List ℕ → ScriptErrorKind → List ℕ → Type 0
-SomeEntryFails inside kind at = (entries : List ParsedSymbolMatcher) × RepeatFails ListTurn (λ front. ListTurnFails) [] entries inside kind at
+abbrev SomeEntryFails : ScriptProfile → List ℕ → ScriptErrorKind → List ℕ → Type 0
+SomeEntryFails profile inside kind at = (entries : List ParsedSymbolMatcher) × RepeatFails (ListTurn profile) (λ front. ListTurnFails profile) [] entries inside kind at
 
-entries_judged : (inside : List ℕ) → Judges (gnu_entries inside) (AreEntries inside) (SomeEntryFails inside)
+entries_judged : (profile : ScriptProfile) (inside : List ℕ) → Judges (gnu_entries profile inside) (AreEntries profile inside) (SomeEntryFails profile inside)
 unfolding gnu_entries
-entries_judged inside = repeats_judged (alone list_turn) ListTurn (λ front. ListTurnFails) turn_judged inside
+entries_judged profile inside = repeats_judged (alone (list_turn profile)) (ListTurn profile) (λ front. ListTurnFails profile) (turn_judged profile) inside
 
 abbrev ended : List ParsedSymbolMatcher × List ℕ → Result (List ParsedSymbolMatcher) Fault
 ended entries = to_end entries.0 entries.1
 
 -- behind the blanks of a list
-abbrev inner_list : List ℕ → Result (List ParsedSymbolMatcher) Fault
-inner_list text = or_else (strips open_word text) (λ rest. gnu_entries rest >>= ended) (refuse Syntax text)
+abbrev inner_list : ScriptProfile → List ℕ → Result (List ParsedSymbolMatcher) Fault
+inner_list profile text = or_else (strips open_word text) (λ rest. gnu_entries profile rest >>= ended) (refuse Syntax text)
 
-list_by : (text here : List ℕ) (r : Result (List ParsedSymbolMatcher) Fault) → Skipped text here → inner_list here ≡ r → gnu_list text ≡ r
+list_by : (profile : ScriptProfile) (text here : List ℕ) (r : Result (List ParsedSymbolMatcher) Fault) → Skipped text here → inner_list profile here ≡ r → gnu_list profile text ≡ r
 unfolding gnu_list
-list_by text here r s is = bind_is (skip text) inner_list here r (skip_is text here s) is
+list_by profile text here r s is = bind_is (skip text) (inner_list profile) here r (skip_is text here s) is
 
-list_unclosed : (text at : List ℕ) → Unclosed text at → gnu_list text ≡ refuse Syntax at
+list_unclosed : (profile : ScriptProfile) (text at : List ℕ) → Unclosed text at → gnu_list profile text ≡ refuse Syntax at
 unfolding gnu_list
-list_unclosed text at u = bind_err (skip text) inner_list (record { left = length at; kind = Syntax }) (skip_fails text at u)
+list_unclosed profile text at u = bind_err (skip text) (inner_list profile) (record { left = length at; kind = Syntax }) (skip_fails text at u)
 
-ended_by : (text inside after : List ℕ) (entries : List ParsedSymbolMatcher) (r : Result (List ParsedSymbolMatcher) Fault) → Skipped text (open_word ++ inside) → Repeats ListTurn [] entries inside after → to_end entries after ≡ r → gnu_list text ≡ r
-ended_by text inside after entries r s l is = list_by text (open_word ++ inside) r s (bind_is (gnu_entries inside) ended (entries, after) r ((entries_judged inside).values (entries, after) l) is)
+ended_by : (profile : ScriptProfile) (text inside after : List ℕ) (entries : List ParsedSymbolMatcher) (r : Result (List ParsedSymbolMatcher) Fault) → Skipped text (open_word ++ inside) → Repeats (ListTurn profile) [] entries inside after → to_end entries after ≡ r → gnu_list profile text ≡ r
+ended_by profile text inside after entries r s l is = list_by profile text (open_word ++ inside) r s (bind_is (gnu_entries profile inside) ended (entries, after) r ((entries_judged profile inside).values (entries, after) l) is)
 
-list_only : (text : List ℕ) (entries : List ParsedSymbolMatcher) → IsExportList text entries → gnu_list text ≡ Ok entries
-list_only text entries l = ended_by text l.0 l.1 entries (Ok entries) l.2 l.3 ((end_judged entries l.1).values entries (refl, l.4))
+list_only : (profile : ScriptProfile) (text : List ℕ) (entries : List ParsedSymbolMatcher) → IsExportList profile text entries → gnu_list profile text ≡ Ok entries
+list_only profile text entries l = ended_by profile text l.0 l.1 entries (Ok entries) l.2 l.3 ((end_judged entries l.1).values entries (refl, l.4))
 
-list_fails : (text : List ℕ) (kind : ScriptErrorKind) (at : List ℕ) → ListFails text kind at → gnu_list text ≡ refuse kind at
-list_fails text kind at (faults.comment at' u) = list_unclosed text at u
-list_fails text kind at (faults.no_brace at' s bare) = list_by text at (refuse Syntax at) s (or_else_none (strips open_word at) (λ rest. gnu_entries rest >>= ended) (refuse Syntax at) (strips_none open_word at bare))
-list_fails text kind at (faults.inside inside at' kind' entries s f) =
-    list_by text (open_word ++ inside) (refuse kind at) s (bind_err (gnu_entries inside) ended (record { left = length at; kind = kind }) ((entries_judged inside).faults kind at (entries, f)))
-list_fails text kind at (faults.behind inside after at' kind' entries s l f) = ended_by text inside after entries (refuse kind at) s l ((end_judged entries after).faults kind at f)
+list_fails : (profile : ScriptProfile) (text : List ℕ) (kind : ScriptErrorKind) (at : List ℕ) → ListFails profile text kind at → gnu_list profile text ≡ refuse kind at
+list_fails profile text kind at (faults.comment at' u) = list_unclosed profile text at u
+list_fails profile text kind at (faults.no_brace at' s bare) = list_by profile text at (refuse Syntax at) s (or_else_none (strips open_word at) (λ rest. gnu_entries profile rest >>= ended) (refuse Syntax at) (strips_none open_word at bare))
+list_fails profile text kind at (faults.inside inside at' kind' entries s f) =
+    list_by profile text (open_word ++ inside) (refuse kind at) s (bind_err (gnu_entries profile inside) ended (record { left = length at; kind = kind }) ((entries_judged profile inside).faults kind at (entries, f)))
+list_fails profile text kind at (faults.behind inside after at' kind' entries s l f) = ended_by profile text inside after entries (refuse kind at) s l ((end_judged entries after).faults kind at f)
 
-end_either : (text inside after : List ℕ) (entries : List ParsedSymbolMatcher) → Skipped text (open_word ++ inside) → Repeats ListTurn [] entries inside after → Either (IsExportList text) (ListFails text)
-end_either text inside after entries s l = elim ((end_judged entries after).either) as (λ _. Either (IsExportList text) (ListFails text)) [
+end_either : (profile : ScriptProfile) (text inside after : List ℕ) (entries : List ParsedSymbolMatcher) → Skipped text (open_word ++ inside) → Repeats (ListTurn profile) [] entries inside after → Either (IsExportList profile text) (ListFails profile text)
+end_either profile text inside after entries s l = elim ((end_judged entries after).either) as (λ _. Either (IsExportList profile text) (ListFails profile text)) [
   | inl e ↦ inl (entries, (inside, after, s, l, e.1.1))
   | inr f ↦ inr (f.0, f.1, faults.behind inside after f.1 f.0 entries s l f.2)
 ]
 
-inside_either : (text inside : List ℕ) → Skipped text (open_word ++ inside) → Either (IsExportList text) (ListFails text)
-inside_either text inside s = elim ((entries_judged inside).either) as (λ _. Either (IsExportList text) (ListFails text)) [
-  | inl l ↦ end_either text inside l.0.1 l.0.0 s l.1
+inside_either : (profile : ScriptProfile) (text inside : List ℕ) → Skipped text (open_word ++ inside) → Either (IsExportList profile text) (ListFails profile text)
+inside_either profile text inside s = elim ((entries_judged profile inside).either) as (λ _. Either (IsExportList profile text) (ListFails profile text)) [
+  | inl l ↦ end_either profile text inside l.0.1 l.0.0 s l.1
   | inr f ↦ inr (f.0, f.1, faults.inside inside f.1 f.0 f.2.0 s f.2.1)
 ]
 
-open_either : (text here : List ℕ) → Skipped text here → Either (IsExportList text) (ListFails text)
-open_either text here s = elim (word_or_not open_word here) as (λ _. Either (IsExportList text) (ListFails text)) [
-  | inl o ↦ inside_either text o.0 (subst (λ (t : List ℕ). Skipped text t) o.1 s)
+open_either : (profile : ScriptProfile) (text here : List ℕ) → Skipped text here → Either (IsExportList profile text) (ListFails profile text)
+open_either profile text here s = elim (word_or_not open_word here) as (λ _. Either (IsExportList profile text) (ListFails profile text)) [
+  | inl o ↦ inside_either profile text o.0 (subst (λ (t : List ℕ). Skipped text t) o.1 s)
   | inr bare ↦ inr (Syntax, here, faults.no_brace here s bare)
 ]
 
-list_either : (text : List ℕ) → Either (IsExportList text) (ListFails text)
-list_either text = elim (skip_or_not text) as (λ _. Either (IsExportList text) (ListFails text)) [
-  | inl s ↦ open_either text s.0 s.1
+list_either : (profile : ScriptProfile) (text : List ℕ) → Either (IsExportList profile text) (ListFails profile text)
+list_either profile text = elim (skip_or_not text) as (λ _. Either (IsExportList profile text) (ListFails profile text)) [
+  | inl s ↦ open_either profile text s.0 s.1
   | inr u ↦ inr (Syntax, u.0, faults.comment u.0 u.1)
 ]
 
-pub list_judged : (text : List ℕ) → Judges (gnu_list text) (IsExportList text) (ListFails text)
-list_judged text = record {
-  values = list_only text;
-  faults = list_fails text;
-  either = list_either text;
+pub list_judged : (profile : ScriptProfile) (text : List ℕ) → Judges (gnu_list profile text) (IsExportList profile text) (ListFails profile text)
+list_judged profile text = record {
+  values = list_only profile text;
+  faults = list_fails profile text;
+  either = list_either profile text;
 }
 
 -- ---- names and patterns that need no semicolon
@@ -243,14 +245,14 @@ forced_fails text kind at (faults.block rest at' kind' is f) = block_by text res
 forced_fails text kind at (faults.token at' kind' plain f) = token_by text plain ∙ bind_err (forced_token text) as_single (record { left = length at; kind = kind }) (token_fails text kind at f)
 
 -- an entry that stands behind `extern ` is no name or pattern
-block_is : (text behind : List ℕ) (entry : ParsedSymbolMatcher) (rest : List ℕ) → text ≡ extern_word ++ behind → IsEntry text entry rest → IsForcedName text entry
+block_is : (text behind : List ℕ) (entry : ParsedSymbolMatcher) (rest : List ℕ) → text ≡ extern_word ++ behind → IsEntry Wild text entry rest → IsForcedName text entry
 block_is text behind (Single m) rest is e = absurd (e.0 behind is)
 block_is text behind (Multiple ms) rest is e = (rest, e)
 block_is text behind (CxxMatchers ms) rest is e = (rest, e)
 
 block_either : (text behind : List ℕ) → text ≡ extern_word ++ behind → Either (IsForcedName text) (ForcedFails text)
 block_either text behind is = elim ((extern_judged behind).either) as (λ _. Either (IsForcedName text) (ForcedFails text)) [
-  | inl b ↦ inl (b.0.0, block_is text behind b.0.0 b.0.1 is (entry_of text behind b.0 is b.1))
+  | inl b ↦ inl (b.0.0, block_is text behind b.0.0 b.0.1 is (entry_of Wild text behind b.0 is b.1))
   | inr f ↦ inr (f.0, f.1, faults.block behind f.1 f.0 is f.2)
 ]
 
@@ -267,7 +269,7 @@ forced_either text = elim (word_or_not extern_word text) as (λ _. Either (IsFor
 ]
 
 added_either : (text : List ℕ) → Either (IsAddedEntry false text) (AddedFails false text)
-added_either text = elim ((entry_judged text).either) as (λ _. Either (IsAddedEntry false text) (AddedFails false text)) [
+added_either text = elim ((entry_judged Wild text).either) as (λ _. Either (IsAddedEntry false text) (AddedFails false text)) [
   | inl e ↦ inl (e.0.0, (e.0.1, e.1))
   | inr f ↦ inr f
 ]
@@ -280,7 +282,7 @@ added_judged true text = record {
   either = forced_either text;
 }
 added_judged false text = record {
-  values = λ entry e. bind_is (entry_at text) entry_alone (entry, e.0) (Ok entry) ((entry_judged text).values (entry, e.0) e.1) refl;
-  faults = λ kind at f. bind_err (entry_at text) entry_alone (record { left = length at; kind = kind }) ((entry_judged text).faults kind at f);
+  values = λ entry e. bind_is (entry_at Wild text) entry_alone (entry, e.0) (Ok entry) ((entry_judged Wild text).values (entry, e.0) e.1) refl;
+  faults = λ kind at f. bind_err (entry_at Wild text) entry_alone (record { left = length at; kind = kind }) ((entry_judged Wild text).faults kind at f);
   either = added_either text;
 }

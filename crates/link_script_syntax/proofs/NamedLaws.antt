@@ -10,6 +10,7 @@ use Rattle.link_script_syntax.specs.declared.fault.ScriptErrorKind.{ScriptErrorK
 use Rattle.link_script_syntax.specs.declared.fault.ScriptErrorKind.TheVariants.{Syntax, UnknownParentVersion, TooManyVersions}
 use Rattle.link_script_syntax.specs.declared.body.RawVersionBody.{RawVersionBody}
 use Rattle.link_script_syntax.specs.declared.named.RawVersion.{RawVersion}
+use Rattle.link_script_syntax.specs.declared.profile.ScriptProfile.{ScriptProfile}
 use Rattle.link_script_syntax.specs.Fault.{◌>>=◌, refuse}
 use Rattle.link_script_syntax.specs.Blanks.{Skipped}
 use Rattle.link_script_syntax.specs.Many.{grow}
@@ -138,60 +139,60 @@ at_the_end name body p = skip p.1 >>= ended name body p.0
 abbrev at_the_parent : List RawVersion → List ℕ → RawVersionBody × List ℕ → Result (RawVersion × List ℕ) Fault
 at_the_parent front name b = parent_at front b.1 >>= at_the_end name b.0
 
-abbrev at_the_body : List RawVersion → List ℕ → List ℕ → Result (RawVersion × List ℕ) Fault
-at_the_body front name rest = body_at rest >>= at_the_parent front name
+abbrev at_the_body : ScriptProfile → List RawVersion → List ℕ → List ℕ → Result (RawVersion × List ℕ) Fault
+at_the_body profile front name rest = body_at profile rest >>= at_the_parent front name
 
-behind_name : (front : List RawVersion) (text name behind : List ℕ) → IsNameOfVersion front text name behind → named_at front text ≡ (skip behind >>= at_the_body front name)
+behind_name : (profile : ScriptProfile) (front : List RawVersion) (text name behind : List ℕ) → IsNameOfVersion front text name behind → named_at profile front text ≡ (skip behind >>= at_the_body profile front name)
 unfolding named_at
-behind_name front text name behind n =
+behind_name profile front text name behind n =
     let some = n.some in
     let len : name_len text ≡ length name = ap name_len n.whole ∙ name_len_is name behind n.bytes n.ends in
     let front_is : take (length name) text ≡ name = ap (take (length name)) n.whole ∙ take_at name behind (length name) refl in
     let back : drop (length name) text ≡ behind = ap (drop (length name)) n.whole ∙ drop_at name behind (length name) refl in
     rw (len, front_is, back, ne_eqb (length name) 0 (λ e. omega arith), ne_eqb (length front) most_versions n.room) refl
 
-behind_blanks : (front : List RawVersion) (text name behind here : List ℕ) (r : Result (RawVersion × List ℕ) Fault) → IsNameOfVersion front text name behind → Skipped behind here → at_the_body front name here ≡ r → named_at front text ≡ r
-behind_blanks front text name behind here r n s is = behind_name front text name behind n ∙ bind_is (skip behind) (at_the_body front name) here r (skip_is behind here s) is
+behind_blanks : (profile : ScriptProfile) (front : List RawVersion) (text name behind here : List ℕ) (r : Result (RawVersion × List ℕ) Fault) → IsNameOfVersion front text name behind → Skipped behind here → at_the_body profile front name here ≡ r → named_at profile front text ≡ r
+behind_blanks profile front text name behind here r n s is = behind_name profile front text name behind n ∙ bind_is (skip behind) (at_the_body profile front name) here r (skip_is behind here s) is
 
-behind_body : (front : List RawVersion) (text name behind here there : List ℕ) (body : RawVersionBody) (r : Result (RawVersion × List ℕ) Fault) → IsNameOfVersion front text name behind → Skipped behind here → IsBody here body there
-    → at_the_parent front name (body, there) ≡ r → named_at front text ≡ r
-behind_body front text name behind here there body r n s b is = behind_blanks front text name behind here r n s (bind_is (body_at here) (at_the_parent front name) (body, there) r ((body_judged here).values (body, there) b) is)
+behind_body : (profile : ScriptProfile) (front : List RawVersion) (text name behind here there : List ℕ) (body : RawVersionBody) (r : Result (RawVersion × List ℕ) Fault) → IsNameOfVersion front text name behind → Skipped behind here → IsBody profile here body there
+    → at_the_parent front name (body, there) ≡ r → named_at profile front text ≡ r
+behind_body profile front text name behind here there body r n s b is = behind_blanks profile front text name behind here r n s (bind_is (body_at profile here) (at_the_parent front name) (body, there) r ((body_judged profile here).values (body, there) b) is)
 
-behind_parent : (front : List RawVersion) (text name behind here there after : List ℕ) (body : RawVersionBody) (parent : Option ℕ) (r : Result (RawVersion × List ℕ) Fault) → IsNameOfVersion front text name behind → Skipped behind here → IsBody here body there → IsParent front there parent after
-    → at_the_end name body (parent, after) ≡ r → named_at front text ≡ r
-behind_parent front text name behind here there after body parent r n s b p is =
-    behind_body front text name behind here there body r n s b (bind_is (parent_at front there) (at_the_end name body) (parent, after) r (parent_only front there parent after p) is)
+behind_parent : (profile : ScriptProfile) (front : List RawVersion) (text name behind here there after : List ℕ) (body : RawVersionBody) (parent : Option ℕ) (r : Result (RawVersion × List ℕ) Fault) → IsNameOfVersion front text name behind → Skipped behind here → IsBody profile here body there → IsParent front there parent after
+    → at_the_end name body (parent, after) ≡ r → named_at profile front text ≡ r
+behind_parent profile front text name behind here there after body parent r n s b p is =
+    behind_body profile front text name behind here there body r n s b (bind_is (parent_at front there) (at_the_end name body) (parent, after) r (parent_only front there parent after p) is)
 
-named_only : (front : List RawVersion) (text : List ℕ) (v : RawVersion) (rest : List ℕ) → IsNamed front text v rest → named_at front text ≡ Ok (v, rest)
-named_only front text v rest n =
-    behind_parent front text v.name n.behind n.at_body n.at_parent n.at_end v.body v.parent_index (Ok (v, rest)) (record { whole = n.whole; some = n.some; bytes = n.name; ends = n.ends; room = n.room }) n.blanks n.body n.parent
+named_only : (profile : ScriptProfile) (front : List RawVersion) (text : List ℕ) (v : RawVersion) (rest : List ℕ) → IsNamed profile front text v rest → named_at profile front text ≡ Ok (v, rest)
+named_only profile front text v rest n =
+    behind_parent profile front text v.name n.behind n.at_body n.at_parent n.at_end v.body v.parent_index (Ok (v, rest)) (record { whole = n.whole; some = n.some; bytes = n.name; ends = n.ends; room = n.room }) n.blanks n.body n.parent
     (bind_is (skip n.at_end) (ended v.name v.body v.parent_index) rest (Ok (v, rest)) (skip_is n.at_end rest n.end) refl)
 
-no_name_fails : (front : List RawVersion) (text : List ℕ) → EndsName text → named_at front text ≡ refuse Syntax text
+no_name_fails : (profile : ScriptProfile) (front : List RawVersion) (text : List ℕ) → EndsName text → named_at profile front text ≡ refuse Syntax text
 unfolding named_at
-no_name_fails front text ends = let none : name_len text ≡ 0 = name_len_is [] text tt ends in rw none refl
+no_name_fails profile front text ends = let none : name_len text ≡ 0 = name_len_is [] text tt ends in rw none refl
 
-too_many_fails : (front : List RawVersion) (c : ℕ) (rest : List ℕ) → is_name_byte c ≡ true → length front ≡ most_versions → named_at front (c ∷ rest) ≡ refuse TooManyVersions (c ∷ rest)
+too_many_fails : (profile : ScriptProfile) (front : List RawVersion) (c : ℕ) (rest : List ℕ) → is_name_byte c ≡ true → length front ≡ most_versions → named_at profile front (c ∷ rest) ≡ refuse TooManyVersions (c ∷ rest)
 unfolding named_at
-too_many_fails front c rest is many = rw (is, ne_eqb (suc (name_len rest)) 0 (λ e. omega arith), eq-eqb (length front) most_versions many) refl
+too_many_fails profile front c rest is many = rw (is, ne_eqb (suc (name_len rest)) 0 (λ e. omega arith), eq-eqb (length front) most_versions many) refl
 
-named_fails : (front : List RawVersion) (text : List ℕ) (kind : ScriptErrorKind) (at : List ℕ) → NamedFails front text kind at → named_at front text ≡ refuse kind at
-named_fails front text kind at (faults.no_name ends) = no_name_fails front text ends
-named_fails front text kind at (faults.too_many c rest whole is many) = ap (named_at front) whole ∙ too_many_fails front c rest is many ∙ ap (λ t. refuse TooManyVersions t) (sym whole)
-named_fails front text kind at (faults.comment name behind at' n u) =
-    behind_name front text name behind n ∙ bind_err (skip behind) (at_the_body front name) (record { left = length at; kind = Syntax }) (skip_fails behind at u)
-named_fails front text kind at (faults.body name behind here at' kind' n s f) =
-    behind_blanks front text name behind here (refuse kind at) n s (bind_err (body_at here) (at_the_parent front name) (record { left = length at; kind = kind }) ((body_judged here).faults kind at f))
-named_fails front text kind at (faults.parent name behind here there at' kind' body n s b f) =
-    behind_body front text name behind here there body (refuse kind at) n s b (bind_err (parent_at front there) (at_the_end name body) (record { left = length at; kind = kind }) (parent_fails front there kind at f))
-named_fails front text kind at (faults.comment_behind name behind here there after at' body parent n s b p u) =
-    behind_parent front text name behind here there after body parent (refuse Syntax at) n s b p (bind_err (skip after) (ended name body parent) (record { left = length at; kind = Syntax }) (skip_fails after at u))
+named_fails : (profile : ScriptProfile) (front : List RawVersion) (text : List ℕ) (kind : ScriptErrorKind) (at : List ℕ) → NamedFails profile front text kind at → named_at profile front text ≡ refuse kind at
+named_fails profile front text kind at (faults.no_name ends) = no_name_fails profile front text ends
+named_fails profile front text kind at (faults.too_many c rest whole is many) = ap (named_at profile front) whole ∙ too_many_fails profile front c rest is many ∙ ap (λ t. refuse TooManyVersions t) (sym whole)
+named_fails profile front text kind at (faults.comment name behind at' n u) =
+    behind_name profile front text name behind n ∙ bind_err (skip behind) (at_the_body profile front name) (record { left = length at; kind = Syntax }) (skip_fails behind at u)
+named_fails profile front text kind at (faults.body name behind here at' kind' n s f) =
+    behind_blanks profile front text name behind here (refuse kind at) n s (bind_err (body_at profile here) (at_the_parent front name) (record { left = length at; kind = kind }) ((body_judged profile here).faults kind at f))
+named_fails profile front text kind at (faults.parent name behind here there at' kind' body n s b f) =
+    behind_body profile front text name behind here there body (refuse kind at) n s b (bind_err (parent_at front there) (at_the_end name body) (record { left = length at; kind = kind }) (parent_fails front there kind at f))
+named_fails profile front text kind at (faults.comment_behind name behind here there after at' body parent n s b p u) =
+    behind_parent profile front text name behind here there after body parent (refuse Syntax at) n s b p (bind_err (skip after) (ended name body parent) (record { left = length at; kind = Syntax }) (skip_fails after at u))
 
-abbrev IsNamedHere : List RawVersion → List ℕ → RawVersion × List ℕ → Type 0
-IsNamedHere front text x = IsNamed front text x.0 x.1
+abbrev IsNamedHere : ScriptProfile → List RawVersion → List ℕ → RawVersion × List ℕ → Type 0
+IsNamedHere profile front text x = IsNamed profile front text x.0 x.1
 
-end_either : (front : List RawVersion) (text name behind here there after : List ℕ) (body : RawVersionBody) (parent : Option ℕ) → IsNameOfVersion front text name behind → Skipped behind here → IsBody here body there → IsParent front there parent after → Either (IsNamedHere front text) (NamedFails front text)
-end_either front text name behind here there after body parent n s b p = elim (skip_or_not after) as (λ _. Either (IsNamedHere front text) (NamedFails front text)) [
+end_either : (profile : ScriptProfile) (front : List RawVersion) (text name behind here there after : List ℕ) (body : RawVersionBody) (parent : Option ℕ) → IsNameOfVersion front text name behind → Skipped behind here → IsBody profile here body there → IsParent front there parent after → Either (IsNamedHere profile front text) (NamedFails profile front text)
+end_either profile front text name behind here there after body parent n s b p = elim (skip_or_not after) as (λ _. Either (IsNamedHere profile front text) (NamedFails profile front text)) [
   | inl e ↦ inl (
     (version_of_parts name body parent, e.0),
     record { behind = behind; at_body = here; at_parent = there; at_end = after; whole = n.whole; some = n.some; name = n.bytes; ends = n.ends; room = n.room; blanks = s; body = b; parent = p; end = e.1 },
@@ -199,105 +200,105 @@ end_either front text name behind here there after body parent n s b p = elim (s
   | inr u ↦ inr (Syntax, u.0, faults.comment_behind name behind here there after u.0 body parent n s b p u.1)
 ]
 
-body_either : (front : List RawVersion) (text name behind here there : List ℕ) (body : RawVersionBody) → IsNameOfVersion front text name behind → Skipped behind here → IsBody here body there → Either (IsNamedHere front text) (NamedFails front text)
-body_either front text name behind here there body n s b = elim (parent_either front there) as (λ _. Either (IsNamedHere front text) (NamedFails front text)) [
-  | inl p ↦ end_either front text name behind here there p.0.1 body p.0.0 n s b p.1
+body_either : (profile : ScriptProfile) (front : List RawVersion) (text name behind here there : List ℕ) (body : RawVersionBody) → IsNameOfVersion front text name behind → Skipped behind here → IsBody profile here body there → Either (IsNamedHere profile front text) (NamedFails profile front text)
+body_either profile front text name behind here there body n s b = elim (parent_either front there) as (λ _. Either (IsNamedHere profile front text) (NamedFails profile front text)) [
+  | inl p ↦ end_either profile front text name behind here there p.0.1 body p.0.0 n s b p.1
   | inr f ↦ inr (f.0, f.1, faults.parent name behind here there f.1 f.0 body n s b f.2)
 ]
 
-blanks_either : (front : List RawVersion) (text name behind here : List ℕ) → IsNameOfVersion front text name behind → Skipped behind here → Either (IsNamedHere front text) (NamedFails front text)
-blanks_either front text name behind here n s = elim ((body_judged here).either) as (λ _. Either (IsNamedHere front text) (NamedFails front text)) [
-  | inl b ↦ body_either front text name behind here b.0.1 b.0.0 n s b.1
+blanks_either : (profile : ScriptProfile) (front : List RawVersion) (text name behind here : List ℕ) → IsNameOfVersion front text name behind → Skipped behind here → Either (IsNamedHere profile front text) (NamedFails profile front text)
+blanks_either profile front text name behind here n s = elim ((body_judged profile here).either) as (λ _. Either (IsNamedHere profile front text) (NamedFails profile front text)) [
+  | inl b ↦ body_either profile front text name behind here b.0.1 b.0.0 n s b.1
   | inr f ↦ inr (f.0, f.1, faults.body name behind here f.1 f.0 n s f.2)
 ]
 
-room_either : (front : List RawVersion) (text name behind : List ℕ) → IsNameOfVersion front text name behind → Either (IsNamedHere front text) (NamedFails front text)
-room_either front text name behind n = elim (skip_or_not behind) as (λ _. Either (IsNamedHere front text) (NamedFails front text)) [
-  | inl s ↦ blanks_either front text name behind s.0 n s.1
+room_either : (profile : ScriptProfile) (front : List RawVersion) (text name behind : List ℕ) → IsNameOfVersion front text name behind → Either (IsNamedHere profile front text) (NamedFails profile front text)
+room_either profile front text name behind n = elim (skip_or_not behind) as (λ _. Either (IsNamedHere profile front text) (NamedFails profile front text)) [
+  | inl s ↦ blanks_either profile front text name behind s.0 n s.1
   | inr u ↦ inr (Syntax, u.0, faults.comment name behind u.0 n u.1)
 ]
 
-name_either : (front : List RawVersion) (text name behind : List ℕ) → text ≡ name ++ behind → AreNameBytes name → EndsName behind → Either (IsNamedHere front text) (NamedFails front text)
-name_either front text [] behind whole are ends = inr (Syntax, text, faults.no_name (subst EndsName (sym whole) ends))
-name_either front text (c ∷ name) behind whole are ends = elim (is_or (length front == most_versions)) as (λ _. Either (IsNamedHere front text) (NamedFails front text)) [
+name_either : (profile : ScriptProfile) (front : List RawVersion) (text name behind : List ℕ) → text ≡ name ++ behind → AreNameBytes name → EndsName behind → Either (IsNamedHere profile front text) (NamedFails profile front text)
+name_either profile front text [] behind whole are ends = inr (Syntax, text, faults.no_name (subst EndsName (sym whole) ends))
+name_either profile front text (c ∷ name) behind whole are ends = elim (is_or (length front == most_versions)) as (λ _. Either (IsNamedHere profile front text) (NamedFails profile front text)) [
   | inl many ↦ inr (TooManyVersions, text, faults.too_many c (name ++ behind) whole are.0 (eqb-true (length front) most_versions many))
-  | inr room ↦ room_either front text (c ∷ name) behind (record { whole = whole; some = omega arith; bytes = are; ends = ends; room = λ is. eqb-false (length front) most_versions room is })
+  | inr room ↦ room_either profile front text (c ∷ name) behind (record { whole = whole; some = omega arith; bytes = are; ends = ends; room = λ is. eqb-false (length front) most_versions room is })
 ]
 
-named_either : (front : List RawVersion) (text : List ℕ) → Either (IsNamedHere front text) (NamedFails front text)
-named_either front text = let k = name_of text in name_either front text k.0 k.1 k.2 k.3 k.4
+named_either : (profile : ScriptProfile) (front : List RawVersion) (text : List ℕ) → Either (IsNamedHere profile front text) (NamedFails profile front text)
+named_either profile front text = let k = name_of text in name_either profile front text k.0 k.1 k.2 k.3 k.4
 
-named_shorter : (front : List RawVersion) (text : List ℕ) (v : RawVersion) (rest : List ℕ) → IsNamed front text v rest → length rest < length text
-named_shorter front text v rest n =
+named_shorter : (profile : ScriptProfile) (front : List RawVersion) (text : List ℕ) (v : RawVersion) (rest : List ℕ) → IsNamed profile front text v rest → length rest < length text
+named_shorter profile front text v rest n =
     let w : length text ≡ length (v.name ++ n.behind) = ap length n.whole in
     let some = n.some in
     let a = skipped_shorter n.behind n.at_body n.blanks in
-    let b = body_shorter n.at_body v.body n.at_parent n.body in
+    let b = body_shorter profile n.at_body v.body n.at_parent n.body in
     let c = parent_shorter front n.at_parent v.parent_index n.at_end n.parent in
     let d = skipped_shorter n.at_end rest n.end in
     omega (arith, length-append v.name n.behind)
 
 -- ---- all versions
 
-named_turn : (front : List RawVersion) (text : List ℕ) (r : Result (RawVersion × List ℕ) Fault) → (text ≡ [] → ⊥) → named_at front text ≡ r → version_turn front text ≡ (r >>= as_item)
-named_turn front [] r some e = absurd (some refl)
-named_turn front (c ∷ text) r some e = ap (λ r. r >>= as_item) e
+named_turn : (profile : ScriptProfile) (front : List RawVersion) (text : List ℕ) (r : Result (RawVersion × List ℕ) Fault) → (text ≡ [] → ⊥) → named_at profile front text ≡ r → version_turn profile front text ≡ (r >>= as_item)
+named_turn profile front [] r some e = absurd (some refl)
+named_turn profile front (c ∷ text) r some e = ap (λ r. r >>= as_item) e
 
-not_empty : (front : List RawVersion) (text : List ℕ) (v : RawVersion) (rest : List ℕ) → IsNamed front text v rest → text ≡ [] → ⊥
-not_empty front text v rest n is = let less = named_shorter front text v rest n in let none = ap length is in omega arith
+not_empty : (profile : ScriptProfile) (front : List RawVersion) (text : List ℕ) (v : RawVersion) (rest : List ℕ) → IsNamed profile front text v rest → text ≡ [] → ⊥
+not_empty profile front text v rest n is = let less = named_shorter profile front text v rest n in let none = ap length is in omega arith
 
-version_turn_only : (front : List RawVersion) (text : List ℕ) (o : Option RawVersion) (rest : List ℕ) → VersionTurn front text o rest → version_turn front text ≡ Ok (o, rest)
-version_turn_only front text None rest t = ap (version_turn front) t.0 ∙ ap (λ (r : List ℕ). Ok (None, r)) (sym t.1)
-version_turn_only front text (Some v) rest t = named_turn front text (Ok (v, rest)) (not_empty front text v rest t) (named_only front text v rest t)
+version_turn_only : (profile : ScriptProfile) (front : List RawVersion) (text : List ℕ) (o : Option RawVersion) (rest : List ℕ) → VersionTurn profile front text o rest → version_turn profile front text ≡ Ok (o, rest)
+version_turn_only profile front text None rest t = ap (version_turn profile front) t.0 ∙ ap (λ (r : List ℕ). Ok (None, r)) (sym t.1)
+version_turn_only profile front text (Some v) rest t = named_turn profile front text (Ok (v, rest)) (not_empty profile front text v rest t) (named_only profile front text v rest t)
 
-version_turn_fails : (front : List RawVersion) (text : List ℕ) (kind : ScriptErrorKind) (at : List ℕ) → VersionTurnFails front text kind at → version_turn front text ≡ refuse kind at
-version_turn_fails front text kind at f = named_turn front text (refuse kind at) f.0 (named_fails front text kind at f.1)
+version_turn_fails : (profile : ScriptProfile) (front : List RawVersion) (text : List ℕ) (kind : ScriptErrorKind) (at : List ℕ) → VersionTurnFails profile front text kind at → version_turn profile front text ≡ refuse kind at
+version_turn_fails profile front text kind at f = named_turn profile front text (refuse kind at) f.0 (named_fails profile front text kind at f.1)
 
-abbrev IsTurn : List RawVersion → List ℕ → Option RawVersion × List ℕ → Type 0
-IsTurn front text t = VersionTurn front text t.0 t.1
+abbrev IsTurn : ScriptProfile → List RawVersion → List ℕ → Option RawVersion × List ℕ → Type 0
+IsTurn profile front text t = VersionTurn profile front text t.0 t.1
 
-turn_either : (front : List RawVersion) (text : List ℕ) → Either (IsTurn front text) (VersionTurnFails front text)
-turn_either front [] = inl ((None, []), (refl, refl))
-turn_either front (c ∷ text) = elim (named_either front (c ∷ text)) as (λ _. Either (IsTurn front (c ∷ text)) (VersionTurnFails front (c ∷ text))) [
+turn_either : (profile : ScriptProfile) (front : List RawVersion) (text : List ℕ) → Either (IsTurn profile front text) (VersionTurnFails profile front text)
+turn_either profile front [] = inl ((None, []), (refl, refl))
+turn_either profile front (c ∷ text) = elim (named_either profile front (c ∷ text)) as (λ _. Either (IsTurn profile front (c ∷ text)) (VersionTurnFails profile front (c ∷ text))) [
   | inl v ↦ inl ((Some v.0.0, v.0.1), v.1)
   | inr f ↦ inr (f.0, f.1, ((λ is. cc), f.2))
 ]
 
-version_turn_judged : TurnJudged version_turn VersionTurn VersionTurnFails
-version_turn_judged = record {
+version_turn_judged : (profile : ScriptProfile) → TurnJudged (version_turn profile) (VersionTurn profile) (VersionTurnFails profile)
+version_turn_judged profile = record {
   judged = λ front text. record {
-    values = λ t said. version_turn_only front text t.0 t.1 said;
-    faults = version_turn_fails front text;
-    either = turn_either front text;
+    values = λ t said. version_turn_only profile front text t.0 t.1 said;
+    faults = version_turn_fails profile front text;
+    either = turn_either profile front text;
   };
-  shortens = named_shorter;
+  shortens = named_shorter profile;
 }
 
 -- the versions end with the text
-ends_empty : (versions front : List RawVersion) (text rest : List ℕ) → Repeats VersionTurn front versions text rest → rest ≡ []
-ends_empty [] front text rest r = r.1
-ends_empty (v ∷ versions) front text rest r = ends_empty versions (front ++ v ∷ []) r.0 rest r.2
+ends_empty : (profile : ScriptProfile) (versions front : List RawVersion) (text rest : List ℕ) → Repeats (VersionTurn profile) front versions text rest → rest ≡ []
+ends_empty profile [] front text rest r = r.1
+ends_empty profile (v ∷ versions) front text rest r = ends_empty profile versions (front ++ v ∷ []) r.0 rest r.2
 
-abbrev AreVersions : List ℕ → List RawVersion → Type 0
-AreVersions text versions = Repeats VersionTurn [] versions text []
+abbrev AreVersions : ScriptProfile → List ℕ → List RawVersion → Type 0
+AreVersions profile text versions = Repeats (VersionTurn profile) [] versions text []
 
-abbrev SomeVersionFails : List ℕ → ScriptErrorKind → List ℕ → Type 0
-SomeVersionFails text kind at = (versions : List RawVersion) × RepeatFails VersionTurn VersionTurnFails [] versions text kind at
+abbrev SomeVersionFails : ScriptProfile → List ℕ → ScriptErrorKind → List ℕ → Type 0
+SomeVersionFails profile text kind at = (versions : List RawVersion) × RepeatFails (VersionTurn profile) (VersionTurnFails profile) [] versions text kind at
 
-abbrev Grown : List ℕ → List RawVersion × List ℕ → Type 0
-Grown text t = Repeats VersionTurn [] t.0 text t.1
+abbrev Grown : ScriptProfile → List ℕ → List RawVersion × List ℕ → Type 0
+Grown profile text t = Repeats (VersionTurn profile) [] t.0 text t.1
 
-grown_judged : (text : List ℕ) → Judges (grow version_turn [] text) (Grown text) (SomeVersionFails text)
-grown_judged text = repeats_judged version_turn VersionTurn VersionTurnFails version_turn_judged text
+grown_judged : (profile : ScriptProfile) (text : List ℕ) → Judges (grow (version_turn profile) [] text) (Grown profile text) (SomeVersionFails profile text)
+grown_judged profile text = repeats_judged (version_turn profile) (VersionTurn profile) (VersionTurnFails profile) (version_turn_judged profile) text
 
-versions_either : (text : List ℕ) → Either (Grown text) (SomeVersionFails text) → Either (AreVersions text) (SomeVersionFails text)
-versions_either text (inl t) = inl (t.0.0, subst (λ (rest : List ℕ). Repeats VersionTurn [] t.0.0 text rest) (ends_empty t.0.0 [] text t.0.1 t.1) t.1)
-versions_either text (inr f) = inr f
+versions_either : (profile : ScriptProfile) (text : List ℕ) → Either (Grown profile text) (SomeVersionFails profile text) → Either (AreVersions profile text) (SomeVersionFails profile text)
+versions_either profile text (inl t) = inl (t.0.0, subst (λ (rest : List ℕ). Repeats (VersionTurn profile) [] t.0.0 text rest) (ends_empty profile t.0.0 [] text t.0.1 t.1) t.1)
+versions_either profile text (inr f) = inr f
 
-pub versions_judged : (text : List ℕ) → Judges (versions_at text) (λ versions. Repeats VersionTurn [] versions text []) (λ kind at. (versions : List RawVersion) × RepeatFails VersionTurn VersionTurnFails [] versions text kind at)
+pub versions_judged : (profile : ScriptProfile) (text : List ℕ) → Judges (versions_at profile text) (λ versions. Repeats (VersionTurn profile) [] versions text []) (λ kind at. (versions : List RawVersion) × RepeatFails (VersionTurn profile) (VersionTurnFails profile) [] versions text kind at)
 unfolding versions_at
-versions_judged text = record {
-  values = λ versions r. bind_is (grow version_turn [] text) versions_only (versions, []) (Ok versions) ((grown_judged text).values (versions, []) r) refl;
-  faults = λ kind at f. bind_err (grow version_turn [] text) versions_only (record { left = length at; kind = kind }) ((grown_judged text).faults kind at f);
-  either = versions_either text (grown_judged text).either;
+versions_judged profile text = record {
+  values = λ versions r. bind_is (grow (version_turn profile) [] text) versions_only (versions, []) (Ok versions) ((grown_judged profile text).values (versions, []) r) refl;
+  faults = λ kind at f. bind_err (grow (version_turn profile) [] text) versions_only (record { left = length at; kind = kind }) ((grown_judged profile text).faults kind at f);
+  either = versions_either profile text (grown_judged profile text).either;
 }

@@ -6,6 +6,7 @@ use Rattle.std.proofs.lemmas.Bool.{eqb-true, eq-eqb, lt-ltb, le-ltb}
 use Rattle.std.proofs.lemmas.Option.{same_Some}
 use Rattle.std.proofs.lemmas.List.{length-append}
 use Rattle.link_script_syntax.specs.declared.fault.Fault.{Fault}
+use Rattle.link_script_syntax.specs.declared.profile.TokenEnd.{TokenEnd}
 use Rattle.link_script_syntax.specs.Fault.{◌>>=◌}
 use Rattle.link_script_syntax.specs.Blanks.{Piece, blank, line, block, InFront, Skipped}
 use Rattle.link_script_syntax.specs.Skip.{strips, begins_with}
@@ -118,12 +119,12 @@ after_shorter : (text : List ℕ) → length (after_semicolon text) ≤ length t
 after_shorter [] = omega arith
 after_shorter (c ∷ rest) = after_on c rest (c == 59)
 
-pub token_shorter : {stop : ℕ} {text : List ℕ} {m : _} {rest : List ℕ} (t : IsToken stop text m rest) → length rest < length text
-token_shorter {stop} {text} {m} {rest} t =
-    let e = length_of text (t.bytes ++ stop ∷ t.after) t.whole in
-    let r = length_of rest (after_semicolon (stop ∷ t.after)) t.follows in
+pub token_shorter : {end : TokenEnd} {text : List ℕ} {m : _} {rest : List ℕ} (t : IsToken end text m rest) → length rest < length text
+token_shorter {end} {text} {m} {rest} t =
+    let e = length_of text (t.bytes ++ t.stop ∷ t.after) t.whole in
+    let r = length_of rest (after_semicolon (t.stop ∷ t.after)) t.follows in
     let some = t.some in
-    omega (arith, length-append t.bytes (stop ∷ t.after), after_shorter (stop ∷ t.after))
+    omega (arith, length-append t.bytes (t.stop ∷ t.after), after_shorter (t.stop ∷ t.after))
 
 -- ---- the next `};`
 

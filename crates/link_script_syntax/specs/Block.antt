@@ -11,6 +11,7 @@ use Rattle.link_script_syntax.specs.declared.matcher.SymbolMatcher.{SymbolMatche
 use Rattle.link_script_syntax.specs.Fault.{◌>>=◌, refuse}
 use Rattle.link_script_syntax.specs.Words.{extern_word, cxx_word, c_word, close_word}
 use Rattle.link_script_syntax.specs.Skip.{skip, strips, is_blank, begins_with}
+use Rattle.link_script_syntax.specs.declared.profile.TokenEnd.TheVariants.{Semicolon, Brace}
 use Rattle.link_script_syntax.specs.Token.{token_at}
 use Rattle.link_script_syntax.specs.Many.{many}
 
@@ -61,7 +62,7 @@ item x = (Some x.0, x.1)
 
 -- a token up to a `;` before the next `};`, else up to a `}`
 abbrev pub closed_token : List ℕ → ℕ → Result (Option SymbolMatcher × List ℕ) Fault
-closed_token text place = token_at (if semicolon_before text place then 59 else 125) text >>= λ m. Ok (Some m.0, m.1)
+closed_token text place = token_at (if semicolon_before text place then Semicolon else Brace) text >>= λ m. Ok (Some m.0, m.1)
 
 -- the first of these that applies: the block's end, a further `extern`, no end at all, a token
 unfoldable pub block_turn : List ℕ → Result (Option SymbolMatcher × List ℕ) Fault

@@ -8,6 +8,7 @@ use Rattle.link_script_syntax.specs.declared.body.RawVersionBody.{RawVersionBody
 use Rattle.link_script_syntax.specs.declared.fault.Fault.{Fault}
 use Rattle.link_script_syntax.specs.declared.fault.ScriptErrorKind.TheVariants.{Syntax}
 use Rattle.link_script_syntax.specs.declared.matcher.ParsedSymbolMatcher.{ParsedSymbolMatcher}
+use Rattle.link_script_syntax.specs.declared.profile.ScriptProfile.{ScriptProfile}
 use Rattle.link_script_syntax.specs.Fault.{◌>>=◌, refuse}
 use Rattle.link_script_syntax.specs.Words.{global_word, local_word, open_word, brace_word}
 use Rattle.link_script_syntax.specs.Skip.{skip, strips}
@@ -16,12 +17,12 @@ use Rattle.link_script_syntax.specs.Block.{or_else}
 use Rattle.link_script_syntax.specs.Entry.{entry_at}
 
 -- one turn of a body: its end, a section's head or an entry
-unfoldable pub body_turn : List ℕ → Result (Option Item × List ℕ) Fault
-body_turn text = skip text >>= λ text.
+unfoldable pub body_turn : ScriptProfile → List ℕ → Result (Option Item × List ℕ) Fault
+body_turn profile text = skip text >>= λ text.
     or_else (strips brace_word text) (λ rest. skip rest >>= λ after. Ok (None, after))
     (or_else (strips global_word text) (λ rest. Ok (Some (items.Side Global), rest))
     (or_else (strips local_word text) (λ rest. Ok (Some (items.Side Local), rest))
-    (entry_at text >>= λ e. Ok (Some (items.Entry e.0), e.1))))
+    (entry_at profile text >>= λ e. Ok (Some (items.Entry e.0), e.1))))
 
 -- whether the sections are the same
 abbrev pub same_side : Side → Side → Bool
@@ -40,12 +41,12 @@ abbrev pub body_of : List Item → RawVersionBody
 body_of pieces = record { globals = entries_of Global Global pieces; locals = entries_of Local Global pieces }
 
 -- behind the brace of a body
-unfoldable pub pieces_at : List ℕ → Result (RawVersionBody × List ℕ) Fault
-pieces_at text = many body_turn text >>= λ pieces. Ok (body_of pieces.0, pieces.1)
+unfoldable pub pieces_at : ScriptProfile → List ℕ → Result (RawVersionBody × List ℕ) Fault
+pieces_at profile text = many (body_turn profile) text >>= λ pieces. Ok (body_of pieces.0, pieces.1)
 
 -- a body with its brace
-unfoldable pub body_at : List ℕ → Result (RawVersionBody × List ℕ) Fault
-body_at text = or_else (strips open_word text) (λ rest. pieces_at rest) (refuse Syntax text)
+unfoldable pub body_at : ScriptProfile → List ℕ → Result (RawVersionBody × List ℕ) Fault
+body_at profile text = or_else (strips open_word text) (λ rest. pieces_at profile rest) (refuse Syntax text)
 
 -- the section that the pieces end in
 abbrev pub last_side : Side → List Item → Side

@@ -12,6 +12,8 @@ use Rattle.link_script_syntax.specs.declared.fault.ScriptFault.TheVariants as fa
 use Rattle.link_script_syntax.specs.Fault.{◌>>=◌, refuse, Refuses}
 use Rattle.link_script_syntax.specs.Words.{extern_word, open_word}
 use Rattle.link_script_syntax.specs.Skip.{skip, strips}
+use Rattle.link_script_syntax.specs.declared.profile.ScriptProfile.{ScriptProfile}
+use Rattle.link_script_syntax.specs.Profile.{token_end}
 use Rattle.link_script_syntax.specs.Token.{token_at}
 use Rattle.link_script_syntax.specs.Block.{or_else, language_at, extern_text, block_at}
 
@@ -29,9 +31,9 @@ extern_block language text = skip text >>= λ text.
 unfoldable pub extern_at : List ℕ → Result (ParsedSymbolMatcher × List ℕ) Fault
 extern_at text = or_else (language_at text) (λ l. extern_block l.0 l.1) (refuse (UnsupportedExtern (extern_text text)) text)
 
--- an extern block, or a name or pattern up to a semicolon
-unfoldable pub entry_at : List ℕ → Result (ParsedSymbolMatcher × List ℕ) Fault
-entry_at text = or_else (strips extern_word text) (λ rest. extern_at rest) (token_at 59 text >>= λ m. Ok (Single m.0, m.1))
+-- an extern block, or a name or pattern up to its end
+unfoldable pub entry_at : ScriptProfile → List ℕ → Result (ParsedSymbolMatcher × List ℕ) Fault
+entry_at profile text = or_else (strips extern_word text) (λ rest. extern_at rest) (token_at (token_end profile) text >>= λ m. Ok (Single m.0, m.1))
 
 -- the entry and the place behind it, or the fault at its place, unless memory ran out
 abbrev pub ReadsEntry : List ℕ → Result (ParsedSymbolMatcher × ℕ) ScriptFault → Result (ParsedSymbolMatcher × List ℕ) Fault → Type 0

@@ -1,5 +1,5 @@
 -- Which fault a text has, and where, beside the grammar of what it means. A fault is a kind, and the text from its place on.
-use Rattle.std.specs.Prelude.{◌≡◌, ◌≢◌, ◌<◌, ◌+◌, ℕ, false, IsTrue, List, [], ◌∷◌, ◌++◌, length, slice_get, Option, Some, Result, Ok, Err, ◌⊎◌}
+use Rattle.std.specs.Prelude.{◌≡◌, ◌≢◌, ◌<◌, ◌+◌, ℕ, true, false, IsTrue, List, [], ◌∷◌, ◌++◌, length, slice_get, Option, Some, Result, Ok, Err, ◌⊎◌}
 use Rattle.link_glob.specs.declared.fault.GlobError.{GlobError}
 use Rattle.link_glob.specs.declared.fault.GlobError.TheVariants as globs
 use Rattle.link_glob.specs.declared.analyze.GlobPatternType.TheVariants as types
@@ -16,12 +16,15 @@ use Rattle.link_script_syntax.specs.declared.fault.ScriptFault.{ScriptFault}
 use Rattle.link_script_syntax.specs.declared.fault.ScriptFault.TheVariants as faults
 use Rattle.link_script_syntax.specs.declared.matcher.SymbolMatcher.{SymbolMatcher}
 use Rattle.link_script_syntax.specs.declared.named.RawVersion.{RawVersion}
+use Rattle.link_script_syntax.specs.declared.profile.ScriptProfile.{ScriptProfile}
+use Rattle.link_script_syntax.specs.declared.profile.TokenEnd.{TokenEnd}
 use Rattle.link_script_syntax.specs.Words.{extern_word, word_of, global_word, local_word, open_word, brace_word, close_word, semicolon_word}
 use Rattle.link_script_syntax.specs.Blanks.{Skipped, Unclosed}
+use Rattle.link_script_syntax.specs.Profile.{is_end, IsUnended, token_end}
 use Rattle.link_script_syntax.specs.Token.{Without, trimmed, is_quoted, is_star}
 use Rattle.link_script_syntax.specs.Block.{extern_text}
 use Rattle.link_script_syntax.specs.Named.{is_name_byte, raw_names, most_versions}
-use Rattle.link_script_syntax.specs.Grammar.{NotHere, NoClose, block_stop, BlockTurn, BodyTurn, IsBody, IsParent, AreNameBytes, EndsName, VersionTurn}
+use Rattle.link_script_syntax.specs.Grammar.{NotHere, NoClose, block_end, BlockTurn, BodyTurn, IsBody, IsParent, AreNameBytes, EndsName, VersionTurn}
 
 -- ---- names and patterns
 
@@ -38,15 +41,15 @@ pub record IsBadPattern (bytes : List ℕ) (kind : ScriptErrorKind) : Type 0 whe
   pub pattern : (pattern_type bytes ≡ types.Star) ⊎ (pattern_type bytes ≡ types.NonStar)
   pub fault : IsGlobFault (glob_of Gnu bytes) kind
 
--- a name or pattern up to this byte: all its faults stand at its first byte
-pub data TokenFails (stop : ℕ) (text : List ℕ) : ScriptErrorKind → List ℕ → Type 0 where
-  -- the byte never comes
-  endless : Without stop text → TokenFails stop text Syntax text
-  -- nothing stands in front of it
-  empty : (after : List ℕ) → text ≡ stop ∷ after → TokenFails stop text Syntax text
-  -- what stands in front of it is a pattern that can't be compiled
-  bad_pattern : (bytes after : List ℕ) (kind : ScriptErrorKind) → text ≡ bytes ++ stop ∷ after → 0 < length bytes → Without stop bytes
-      → IsBadPattern (trimmed bytes) kind → TokenFails stop text kind text
+-- a name or pattern up to its end: all its faults stand at its first byte
+pub data TokenFails (end : TokenEnd) (text : List ℕ) : ScriptErrorKind → List ℕ → Type 0 where
+  -- no byte ends it
+  endless : IsUnended end text → TokenFails end text Syntax text
+  -- nothing stands in front of the byte that ends it
+  empty : (stop : ℕ) (after : List ℕ) → text ≡ stop ∷ after → is_end end stop ≡ true → TokenFails end text Syntax text
+  -- what stands in front of that byte is a pattern that can't be compiled
+  bad_pattern : (bytes : List ℕ) (stop : ℕ) (after : List ℕ) (kind : ScriptErrorKind) → text ≡ bytes ++ stop ∷ after → 0 < length bytes → IsUnended end bytes → is_end end stop ≡ true
+      → IsBadPattern (trimmed bytes) kind → TokenFails end text kind text
 
 -- ---- repetitions
 
@@ -80,7 +83,7 @@ pub data BlockTurnFails (text : List ℕ) : ScriptErrorKind → List ℕ → Typ
   endless : (at : List ℕ) → Skipped text at → NotHere extern_word at → NoClose at → BlockTurnFails text Syntax at
   -- a name or pattern that fails, where what is in front of the next `};` says which byte ends it
   token : (here inner after at : List ℕ) (kind : ScriptErrorKind) → Skipped text here → NotHere close_word here → NotHere extern_word here
-      → here ≡ inner ++ 125 ∷ 59 ∷ after → NoClose inner → TokenFails (block_stop inner) here kind at → BlockTurnFails text kind at
+      → here ≡ inner ++ 125 ∷ 59 ∷ after → NoClose inner → TokenFails (block_end inner) here kind at → BlockTurnFails text kind at
 
 -- in a block some turn fails
 abbrev pub BlockFails : List ℕ → ScriptErrorKind → List ℕ → Type 0
@@ -101,29 +104,29 @@ pub data ExternFails (text : List ℕ) : ScriptErrorKind → List ℕ → Type 0
 -- ---- entries and bodies
 
 -- an entry
-pub data EntryFails (text : List ℕ) : ScriptErrorKind → List ℕ → Type 0 where
+pub data EntryFails (profile : ScriptProfile) (text : List ℕ) : ScriptErrorKind → List ℕ → Type 0 where
   -- an extern block fails
-  block : (rest at : List ℕ) (kind : ScriptErrorKind) → text ≡ extern_word ++ rest → ExternFails rest kind at → EntryFails text kind at
-  -- a name or pattern up to a semicolon fails
-  token : (at : List ℕ) (kind : ScriptErrorKind) → NotHere extern_word text → TokenFails 59 text kind at → EntryFails text kind at
+  block : (rest at : List ℕ) (kind : ScriptErrorKind) → text ≡ extern_word ++ rest → ExternFails rest kind at → EntryFails profile text kind at
+  -- a name or pattern up to its end fails
+  token : (at : List ℕ) (kind : ScriptErrorKind) → NotHere extern_word text → TokenFails (token_end profile) text kind at → EntryFails profile text kind at
 
 -- a turn of a body
-pub data BodyTurnFails (text : List ℕ) : ScriptErrorKind → List ℕ → Type 0 where
+pub data BodyTurnFails (profile : ScriptProfile) (text : List ℕ) : ScriptErrorKind → List ℕ → Type 0 where
   -- a comment in front is never closed
-  comment : (at : List ℕ) → Unclosed text at → BodyTurnFails text Syntax at
+  comment : (at : List ℕ) → Unclosed text at → BodyTurnFails profile text Syntax at
   -- a comment behind the closing brace is never closed
-  comment_behind : (after at : List ℕ) → Skipped text (brace_word ++ after) → Unclosed after at → BodyTurnFails text Syntax at
+  comment_behind : (after at : List ℕ) → Skipped text (brace_word ++ after) → Unclosed after at → BodyTurnFails profile text Syntax at
   -- an entry fails
   entry : (here at : List ℕ) (kind : ScriptErrorKind) → Skipped text here → NotHere brace_word here → NotHere global_word here → NotHere local_word here
-      → EntryFails here kind at → BodyTurnFails text kind at
+      → EntryFails profile here kind at → BodyTurnFails profile text kind at
 
 -- a body
-pub data BodyFails (text : List ℕ) : ScriptErrorKind → List ℕ → Type 0 where
+pub data BodyFails (profile : ScriptProfile) (text : List ℕ) : ScriptErrorKind → List ℕ → Type 0 where
   -- no `{`
-  no_brace : NotHere open_word text → BodyFails text Syntax text
+  no_brace : NotHere open_word text → BodyFails profile text Syntax text
   -- behind it some turn fails
   inside : (inside at : List ℕ) (kind : ScriptErrorKind) (its : List Item) → text ≡ open_word ++ inside
-      → RepeatFails BodyTurn (λ front. BodyTurnFails) [] its inside kind at → BodyFails text kind at
+      → RepeatFails (BodyTurn profile) (λ front. BodyTurnFails profile) [] its inside kind at → BodyFails profile text kind at
 
 -- ---- named versions
 
@@ -148,26 +151,26 @@ pub record IsNameOfVersion (front : List RawVersion) (text name behind : List �
   pub room : length front ≢ most_versions
 
 -- a named version behind the ones in front
-pub data NamedFails (front : List RawVersion) (text : List ℕ) : ScriptErrorKind → List ℕ → Type 0 where
+pub data NamedFails (profile : ScriptProfile) (front : List RawVersion) (text : List ℕ) : ScriptErrorKind → List ℕ → Type 0 where
   -- no byte of a name
-  no_name : EndsName text → NamedFails front text Syntax text
+  no_name : EndsName text → NamedFails profile front text Syntax text
   -- a name, but already as many versions as there may be
-  too_many : (c : ℕ) (rest : List ℕ) → text ≡ c ∷ rest → IsTrue (is_name_byte c) → length front ≡ most_versions → NamedFails front text TooManyVersions text
+  too_many : (c : ℕ) (rest : List ℕ) → text ≡ c ∷ rest → IsTrue (is_name_byte c) → length front ≡ most_versions → NamedFails profile front text TooManyVersions text
   -- a comment behind the name is never closed
-  comment : (name behind at : List ℕ) → IsNameOfVersion front text name behind → Unclosed behind at → NamedFails front text Syntax at
+  comment : (name behind at : List ℕ) → IsNameOfVersion front text name behind → Unclosed behind at → NamedFails profile front text Syntax at
   -- the body fails
-  body : (name behind here at : List ℕ) (kind : ScriptErrorKind) → IsNameOfVersion front text name behind → Skipped behind here → BodyFails here kind at
-      → NamedFails front text kind at
+  body : (name behind here at : List ℕ) (kind : ScriptErrorKind) → IsNameOfVersion front text name behind → Skipped behind here → BodyFails profile here kind at
+      → NamedFails profile front text kind at
   -- the parent fails
   parent : (name behind here there at : List ℕ) (kind : ScriptErrorKind) (body : RawVersionBody) → IsNameOfVersion front text name behind → Skipped behind here
-      → IsBody here body there → ParentFails front there kind at → NamedFails front text kind at
+      → IsBody profile here body there → ParentFails front there kind at → NamedFails profile front text kind at
   -- a comment behind the parent's semicolon is never closed
   comment_behind : (name behind here there after at : List ℕ) (body : RawVersionBody) (parent : Option ℕ) → IsNameOfVersion front text name behind
-      → Skipped behind here → IsBody here body there → IsParent front there parent after → Unclosed after at → NamedFails front text Syntax at
+      → Skipped behind here → IsBody profile here body there → IsParent front there parent after → Unclosed after at → NamedFails profile front text Syntax at
 
 -- a version where the text has not ended
-abbrev pub VersionTurnFails : List RawVersion → List ℕ → ScriptErrorKind → List ℕ → Type 0
-VersionTurnFails front text kind at = (text ≢ []) × NamedFails front text kind at
+abbrev pub VersionTurnFails : ScriptProfile → List RawVersion → List ℕ → ScriptErrorKind → List ℕ → Type 0
+VersionTurnFails profile front text kind at = (text ≢ []) × NamedFails profile front text kind at
 
 -- ---- whole scripts
 
@@ -179,19 +182,19 @@ pub data EndFails (text : List ℕ) : ScriptErrorKind → List ℕ → Type 0 wh
   more : (at : List ℕ) → Skipped text at → at ≢ [] → EndFails text Syntax at
 
 -- a version script
-pub data ScriptFails (text : List ℕ) : ScriptErrorKind → List ℕ → Type 0 where
+pub data ScriptFails (profile : ScriptProfile) (text : List ℕ) : ScriptErrorKind → List ℕ → Type 0 where
   -- a comment in front is never closed
-  comment : (at : List ℕ) → Unclosed text at → ScriptFails text Syntax at
+  comment : (at : List ℕ) → Unclosed text at → ScriptFails profile text Syntax at
   -- the anonymous form: its body fails
-  body : (inside at : List ℕ) (kind : ScriptErrorKind) → Skipped text (open_word ++ inside) → BodyFails (open_word ++ inside) kind at → ScriptFails text kind at
+  body : (inside at : List ℕ) (kind : ScriptErrorKind) → Skipped text (open_word ++ inside) → BodyFails profile (open_word ++ inside) kind at → ScriptFails profile text kind at
   -- no semicolon stands behind the body
-  no_semicolon : (here at : List ℕ) (body : RawVersionBody) → Skipped text here → IsBody here body at → NotHere semicolon_word at → ScriptFails text Syntax at
+  no_semicolon : (here at : List ℕ) (body : RawVersionBody) → Skipped text here → IsBody profile here body at → NotHere semicolon_word at → ScriptFails profile text Syntax at
   -- behind the semicolon the text does not end
-  behind : (here after at : List ℕ) (kind : ScriptErrorKind) (body : RawVersionBody) → Skipped text here → IsBody here body (semicolon_word ++ after)
-      → EndFails after kind at → ScriptFails text kind at
+  behind : (here after at : List ℕ) (kind : ScriptErrorKind) (body : RawVersionBody) → Skipped text here → IsBody profile here body (semicolon_word ++ after)
+      → EndFails after kind at → ScriptFails profile text kind at
   -- named versions: one of them fails
   version : (here at : List ℕ) (kind : ScriptErrorKind) (versions : List RawVersion) → Skipped text here → NotHere open_word here
-      → RepeatFails VersionTurn VersionTurnFails [] versions here kind at → ScriptFails text kind at
+      → RepeatFails (VersionTurn profile) (VersionTurnFails profile) [] versions here kind at → ScriptFails profile text kind at
 
 -- ---- answers
 

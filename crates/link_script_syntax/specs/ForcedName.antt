@@ -5,6 +5,7 @@ use Rattle.link_script_syntax.specs.declared.fault.ScriptErrorKind.TheVariants.{
 use Rattle.link_script_syntax.specs.declared.matcher.SymbolMatcher.{SymbolMatcher}
 use Rattle.link_script_syntax.specs.declared.matcher.ParsedSymbolMatcher.{ParsedSymbolMatcher}
 use Rattle.link_script_syntax.specs.declared.matcher.ParsedSymbolMatcher.TheVariants.{Single}
+use Rattle.link_script_syntax.specs.declared.profile.ScriptProfile.TheVariants.{Wild}
 use Rattle.link_script_syntax.specs.Words.{extern_word}
 use Rattle.link_script_syntax.specs.Fault.{◌>>=◌, refuse}
 use Rattle.link_script_syntax.specs.Skip.{strips}
@@ -30,4 +31,4 @@ forced_name text =
 -- the entry that a text adds to a list, without the `;` that an entry of a list has, or with it
 unfoldable pub added_entry : Bool → List ℕ → Result ParsedSymbolMatcher Fault
 added_entry true text = forced_name text
-added_entry false text = entry_at text >>= λ e. Ok e.0
+added_entry false text = entry_at Wild text >>= λ e. Ok e.0

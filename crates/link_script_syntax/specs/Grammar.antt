@@ -9,10 +9,14 @@ use Rattle.link_script_syntax.specs.declared.named.RawVersion.{RawVersion}
 use Rattle.link_script_syntax.specs.declared.matcher.SymbolMatcher.{SymbolMatcher}
 use Rattle.link_script_syntax.specs.declared.matcher.ParsedSymbolMatcher.{ParsedSymbolMatcher}
 use Rattle.link_script_syntax.specs.declared.matcher.ParsedSymbolMatcher.TheVariants.{Single, Multiple, CxxMatchers}
+use Rattle.link_script_syntax.specs.declared.profile.ScriptProfile.{ScriptProfile}
+use Rattle.link_script_syntax.specs.declared.profile.TokenEnd.{TokenEnd}
+use Rattle.link_script_syntax.specs.declared.profile.TokenEnd.TheVariants.{Semicolon, Brace}
 use Rattle.link_script_syntax.specs.declared.script.RawScript.{RawScript}
 use Rattle.link_script_syntax.specs.declared.script.RawScript.TheVariants.{Anonymous, Named}
 use Rattle.link_script_syntax.specs.Words.{extern_word, c_word, cxx_word, global_word, local_word, open_word, brace_word, close_word, semicolon_word}
 use Rattle.link_script_syntax.specs.Blanks.{Skipped}
+use Rattle.link_script_syntax.specs.Profile.{token_end}
 use Rattle.link_script_syntax.specs.Token.{IsToken, Without}
 use Rattle.link_script_syntax.specs.Body.{body_of}
 use Rattle.link_script_syntax.specs.Named.{is_name_byte, raw_names, most_versions}
@@ -33,8 +37,8 @@ NoClose (c ∷ []) = Unit {0}
 NoClose (c ∷ d ∷ rest) = ((c ≡ 125) × (d ≡ 59) → ⊥) × NoClose (d ∷ rest)
 
 -- a semicolon where one stands in front of the closing `};`, and otherwise a brace
-abbrev pub block_stop : List ℕ → ℕ
-block_stop inner = if list_any (λ c. c == 59) inner then 59 else 125
+abbrev pub block_end : List ℕ → TokenEnd
+block_end inner = if list_any (λ c. c == 59) inner then Semicolon else Brace
 
 -- a name or pattern in a block: what is in front of the next `};` says which byte ends it
 pub record IsBlockToken (text : List ℕ) (m : SymbolMatcher) (rest : List ℕ) : Type 0 where
@@ -42,7 +46,7 @@ pub record IsBlockToken (text : List ℕ) (m : SymbolMatcher) (rest : List ℕ) 
   pub after : List ℕ
   pub whole : text ≡ inner ++ 125 ∷ 59 ∷ after
   pub first : NoClose inner
-  pub token : IsToken (block_stop inner) text m rest
+  pub token : IsToken (block_end inner) text m rest
 
 -- in a block: `};` and the blanks behind it, or a name or pattern
 abbrev pub BlockTurn : List SymbolMatcher → List ℕ → Option SymbolMatcher → List ℕ → Type 0
@@ -53,22 +57,22 @@ BlockTurn front text (Some m) rest = (here : List ℕ) × Skipped text here × N
 abbrev pub IsExtern : List ℕ → List SymbolMatcher → List ℕ → List ℕ → Type 0
 IsExtern language ms text rest = (behind inside : List ℕ) × (text ≡ extern_word ++ (language ++ behind)) × Skipped behind (open_word ++ inside) × Repeats BlockTurn [] ms inside rest
 
--- an entry: a name or pattern up to a semicolon, or an extern block
-abbrev pub IsEntry : List ℕ → ParsedSymbolMatcher → List ℕ → Type 0
-IsEntry text (Single m) rest = NotHere extern_word text × IsToken 59 text m rest
-IsEntry text (Multiple ms) rest = IsExtern c_word ms text rest
-IsEntry text (CxxMatchers ms) rest = IsExtern cxx_word ms text rest
+-- an entry: a name or pattern up to its end, or an extern block
+abbrev pub IsEntry : ScriptProfile → List ℕ → ParsedSymbolMatcher → List ℕ → Type 0
+IsEntry profile text (Single m) rest = NotHere extern_word text × IsToken (token_end profile) text m rest
+IsEntry profile text (Multiple ms) rest = IsExtern c_word ms text rest
+IsEntry profile text (CxxMatchers ms) rest = IsExtern cxx_word ms text rest
 
 -- in a body: its brace and the blanks behind it, the head of a section, or an entry
-abbrev pub BodyTurn : List Item → List ℕ → Option Item → List ℕ → Type 0
-BodyTurn front text None rest = (after : List ℕ) × Skipped text (brace_word ++ after) × Skipped after rest
-BodyTurn front text (Some (items.Side Global)) rest = Skipped text (global_word ++ rest)
-BodyTurn front text (Some (items.Side Local)) rest = Skipped text (local_word ++ rest)
-BodyTurn front text (Some (items.Entry e)) rest = (here : List ℕ) × Skipped text here × NotHere brace_word here × NotHere global_word here × NotHere local_word here × IsEntry here e rest
+abbrev pub BodyTurn : ScriptProfile → List Item → List ℕ → Option Item → List ℕ → Type 0
+BodyTurn profile front text None rest = (after : List ℕ) × Skipped text (brace_word ++ after) × Skipped after rest
+BodyTurn profile front text (Some (items.Side Global)) rest = Skipped text (global_word ++ rest)
+BodyTurn profile front text (Some (items.Side Local)) rest = Skipped text (local_word ++ rest)
+BodyTurn profile front text (Some (items.Entry e)) rest = (here : List ℕ) × Skipped text here × NotHere brace_word here × NotHere global_word here × NotHere local_word here × IsEntry profile here e rest
 
 -- a body, whose entries are global up to the first head of a section
-abbrev pub IsBody : List ℕ → RawVersionBody → List ℕ → Type 0
-IsBody text body rest = (inside : List ℕ) × (its : List Item) × (text ≡ open_word ++ inside) × Repeats BodyTurn [] its inside rest × (body ≡ body_of its)
+abbrev pub IsBody : ScriptProfile → List ℕ → RawVersionBody → List ℕ → Type 0
+IsBody profile text body rest = (inside : List ℕ) × (its : List Item) × (text ≡ open_word ++ inside) × Repeats (BodyTurn profile) [] its inside rest × (body ≡ body_of its)
 
 -- the first of the names that is this one has number n
 abbrev pub IsFirstNamed : List (List ℕ) → List ℕ → ℕ → Type 0
@@ -94,7 +98,7 @@ EndsName [] = Unit {0}
 EndsName (c ∷ rest) = is_name_byte c ≡ false
 
 -- a named version behind the ones in front, of which there are not yet as many as there may be
-pub record IsNamed (front : List RawVersion) (text : List ℕ) (v : RawVersion) (rest : List ℕ) : Type 0 where
+pub record IsNamed (profile : ScriptProfile) (front : List RawVersion) (text : List ℕ) (v : RawVersion) (rest : List ℕ) : Type 0 where
   pub behind : List ℕ
   pub at_body : List ℕ
   pub at_parent : List ℕ
@@ -105,16 +109,16 @@ pub record IsNamed (front : List RawVersion) (text : List ℕ) (v : RawVersion) 
   pub ends : EndsName behind
   pub room : length front ≢ most_versions
   pub blanks : Skipped behind at_body
-  pub body : IsBody at_body v.body at_parent
+  pub body : IsBody profile at_body v.body at_parent
   pub parent : IsParent front at_parent v.parent_index at_end
   pub end : Skipped at_end rest
 
 -- named versions up to the end of the text
-abbrev pub VersionTurn : List RawVersion → List ℕ → Option RawVersion → List ℕ → Type 0
-VersionTurn front text None rest = (text ≡ []) × (rest ≡ [])
-VersionTurn front text (Some v) rest = IsNamed front text v rest
+abbrev pub VersionTurn : ScriptProfile → List RawVersion → List ℕ → Option RawVersion → List ℕ → Type 0
+VersionTurn profile front text None rest = (text ≡ []) × (rest ≡ [])
+VersionTurn profile front text (Some v) rest = IsNamed profile front text v rest
 
 -- a version script: a body, a semicolon and the end of the text, or named versions
-abbrev pub IsVersionScript : List ℕ → RawScript → Type 0
-IsVersionScript text (Anonymous body) = (here behind : List ℕ) × Skipped text here × IsBody here body (semicolon_word ++ behind) × Skipped behind []
-IsVersionScript text (Named versions) = (here : List ℕ) × Skipped text here × NotHere open_word here × Repeats VersionTurn [] versions here []
+abbrev pub IsVersionScript : ScriptProfile → List ℕ → RawScript → Type 0
+IsVersionScript profile text (Anonymous body) = (here behind : List ℕ) × Skipped text here × IsBody profile here body (semicolon_word ++ behind) × Skipped behind []
+IsVersionScript profile text (Named versions) = (here : List ℕ) × Skipped text here × NotHere open_word here × Repeats (VersionTurn profile) [] versions here []

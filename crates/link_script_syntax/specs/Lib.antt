@@ -2,6 +2,7 @@ pub mod Words
 pub mod Fault
 pub mod Skip
 pub mod Blanks
+pub mod Profile
 pub mod Token
 pub mod Many
 pub mod Block

@@ -3,6 +3,8 @@ use Rattle.std.specs.Prelude.{◌≡◌, ◌<◌, ℕ, Bool, true, false, List, 
 use Rattle.link_script_syntax.specs.declared.fault.ScriptErrorKind.{ScriptErrorKind}
 use Rattle.link_script_syntax.specs.declared.fault.ScriptErrorKind.TheVariants.{Syntax}
 use Rattle.link_script_syntax.specs.declared.matcher.ParsedSymbolMatcher.{ParsedSymbolMatcher}
+use Rattle.link_script_syntax.specs.declared.profile.ScriptProfile.{ScriptProfile}
+use Rattle.link_script_syntax.specs.declared.profile.ScriptProfile.TheVariants.{Wild}
 use Rattle.link_script_syntax.specs.Words.{extern_word, open_word, close_word}
 use Rattle.link_script_syntax.specs.Blanks.{Skipped, Unclosed}
 use Rattle.link_script_syntax.specs.Token.{Without, trimmed}
@@ -11,24 +13,24 @@ use Rattle.link_script_syntax.specs.ListGrammar.{ListTurn}
 use Rattle.link_script_syntax.specs.Faults.{IsBadPattern, RepeatFails, ExternFails, EntryFails, EndFails}
 
 -- a turn of a list
-pub data ListTurnFails (text : List ℕ) : ScriptErrorKind → List ℕ → Type 0 where
+pub data ListTurnFails (profile : ScriptProfile) (text : List ℕ) : ScriptErrorKind → List ℕ → Type 0 where
   -- a comment in front is never closed
-  comment : (at : List ℕ) → Unclosed text at → ListTurnFails text Syntax at
+  comment : (at : List ℕ) → Unclosed text at → ListTurnFails profile text Syntax at
   -- an entry fails
-  entry : (here at : List ℕ) (kind : ScriptErrorKind) → Skipped text here → NotHere close_word here → EntryFails here kind at → ListTurnFails text kind at
+  entry : (here at : List ℕ) (kind : ScriptErrorKind) → Skipped text here → NotHere close_word here → EntryFails profile here kind at → ListTurnFails profile text kind at
 
 -- a GNU export list
-pub data ListFails (text : List ℕ) : ScriptErrorKind → List ℕ → Type 0 where
+pub data ListFails (profile : ScriptProfile) (text : List ℕ) : ScriptErrorKind → List ℕ → Type 0 where
   -- a comment in front is never closed
-  comment : (at : List ℕ) → Unclosed text at → ListFails text Syntax at
+  comment : (at : List ℕ) → Unclosed text at → ListFails profile text Syntax at
   -- no `{`
-  no_brace : (at : List ℕ) → Skipped text at → NotHere open_word at → ListFails text Syntax at
+  no_brace : (at : List ℕ) → Skipped text at → NotHere open_word at → ListFails profile text Syntax at
   -- some turn fails
   inside : (inside at : List ℕ) (kind : ScriptErrorKind) (entries : List ParsedSymbolMatcher) → Skipped text (open_word ++ inside)
-      → RepeatFails ListTurn (λ front. ListTurnFails) [] entries inside kind at → ListFails text kind at
+      → RepeatFails (ListTurn profile) (λ front. ListTurnFails profile) [] entries inside kind at → ListFails profile text kind at
   -- behind the closing `};` the text does not end
   behind : (inside after at : List ℕ) (kind : ScriptErrorKind) (entries : List ParsedSymbolMatcher) → Skipped text (open_word ++ inside)
-      → Repeats ListTurn [] entries inside after → EndFails after kind at → ListFails text kind at
+      → Repeats (ListTurn profile) [] entries inside after → EndFails after kind at → ListFails profile text kind at
 
 -- a name or pattern that needs no semicolon: all its faults stand at its first byte
 pub data ForcedTokenFails (text : List ℕ) : ScriptErrorKind → List ℕ → Type 0 where
@@ -50,4 +52,4 @@ pub data ForcedFails (text : List ℕ) : ScriptErrorKind → List ℕ → Type 0
 -- what is added to a list, without the semicolon that an entry of a list has, or with it
 abbrev pub AddedFails : Bool → List ℕ → ScriptErrorKind → List ℕ → Type 0
 AddedFails true text kind at = ForcedFails text kind at
-AddedFails false text kind at = EntryFails text kind at
+AddedFails false text kind at = EntryFails Wild text kind at

@@ -4,6 +4,7 @@ use Rattle.std.specs.Str.{bytes_eq}
 use Rattle.link_script_syntax.specs.declared.named.RawVersion.{RawVersion}
 use Rattle.link_script_syntax.specs.declared.fault.Fault.{Fault}
 use Rattle.link_script_syntax.specs.declared.fault.ScriptErrorKind.TheVariants.{Syntax, UnknownParentVersion, TooManyVersions}
+use Rattle.link_script_syntax.specs.declared.profile.ScriptProfile.{ScriptProfile}
 use Rattle.link_script_syntax.specs.Fault.{◌>>=◌, refuse}
 use Rattle.link_script_syntax.specs.Skip.{skip}
 use Rattle.link_script_syntax.specs.Many.{grow}
@@ -57,11 +58,11 @@ abbrev pub most_versions : ℕ
 most_versions = 32766
 
 -- a name, a body and a parent, where these versions are in front
-unfoldable pub named_at : List RawVersion → List ℕ → Result (RawVersion × List ℕ) Fault
-named_at versions text =
+unfoldable pub named_at : ScriptProfile → List RawVersion → List ℕ → Result (RawVersion × List ℕ) Fault
+named_at profile versions text =
     if name_len text == 0 then refuse Syntax text else
     (if length versions == most_versions then refuse TooManyVersions text else
-    (skip (drop (name_len text) text) >>= λ rest. body_at rest >>= λ b. parent_at versions b.1 >>= λ p. skip p.1 >>= λ rest.
+    (skip (drop (name_len text) text) >>= λ rest. body_at profile rest >>= λ b. parent_at versions b.1 >>= λ p. skip p.1 >>= λ rest.
     Ok (record { name = take (name_len text) text; parent_index = p.0; body = b.0 }, rest)))
 
 -- one version more
@@ -69,14 +70,14 @@ abbrev pub as_item : RawVersion × List ℕ → Result (Option RawVersion × Lis
 as_item x = Ok (Some x.0, x.1)
 
 -- the next version, or the end of the text
-abbrev pub version_turn : List RawVersion → List ℕ → Result (Option RawVersion × List ℕ) Fault
-version_turn front [] = Ok (None, [])
-version_turn front (c ∷ text) = named_at front (c ∷ text) >>= as_item
+abbrev pub version_turn : ScriptProfile → List RawVersion → List ℕ → Result (Option RawVersion × List ℕ) Fault
+version_turn profile front [] = Ok (None, [])
+version_turn profile front (c ∷ text) = named_at profile front (c ∷ text) >>= as_item
 
 -- the versions without the text behind them, which is empty
 abbrev pub versions_only : List RawVersion × List ℕ → Result (List RawVersion) Fault
 versions_only x = Ok x.0
 
 -- all versions up to the end of the text
-unfoldable pub versions_at : List ℕ → Result (List RawVersion) Fault
-versions_at text = grow version_turn [] text >>= versions_only
+unfoldable pub versions_at : ScriptProfile → List ℕ → Result (List RawVersion) Fault
+versions_at profile text = grow (version_turn profile) [] text >>= versions_only

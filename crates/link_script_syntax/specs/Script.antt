@@ -5,6 +5,7 @@ use Rattle.link_script_syntax.specs.declared.fault.ScriptErrorKind.TheVariants.{
 use Rattle.link_script_syntax.specs.declared.body.RawVersionBody.{RawVersionBody}
 use Rattle.link_script_syntax.specs.declared.script.RawScript.{RawScript}
 use Rattle.link_script_syntax.specs.declared.script.RawScript.TheVariants.{Anonymous, Named}
+use Rattle.link_script_syntax.specs.declared.profile.ScriptProfile.{ScriptProfile}
 use Rattle.link_script_syntax.specs.Fault.{◌>>=◌, refuse}
 use Rattle.link_script_syntax.specs.Words.{semicolon_word}
 use Rattle.link_script_syntax.specs.Skip.{skip, strips, begins_with}
@@ -17,13 +18,13 @@ abbrev pub to_end : {A : Type 0} → A → List ℕ → Result A Fault
 to_end x text = skip text >>= λ rest. if length rest == 0 then Ok x else refuse Syntax rest
 
 -- a body, a semicolon, and the end of the text
-unfoldable pub anonymous : List ℕ → Result RawVersionBody Fault
-anonymous text = body_at text >>= λ b. or_else (strips semicolon_word b.1) (λ rest. to_end b.0 rest) (refuse Syntax b.1)
+unfoldable pub anonymous : ScriptProfile → List ℕ → Result RawVersionBody Fault
+anonymous profile text = body_at profile text >>= λ b. or_else (strips semicolon_word b.1) (λ rest. to_end b.0 rest) (refuse Syntax b.1)
 
 -- a brace first is the anonymous form
-unfoldable pub script_at : List ℕ → Result RawScript Fault
-script_at text = skip text >>= λ text.
-    if begins_with text 123 then (anonymous text >>= λ body. Ok (Anonymous body)) else (versions_at text >>= λ versions. Ok (Named versions))
+unfoldable pub script_at : ScriptProfile → List ℕ → Result RawScript Fault
+script_at profile text = skip text >>= λ text.
+    if begins_with text 123 then (anonymous profile text >>= λ body. Ok (Anonymous body)) else (versions_at profile text >>= λ versions. Ok (Named versions))
 
 -- no more versions than numbers below 32,768
 abbrev pub IsFew : RawScript → Type 0

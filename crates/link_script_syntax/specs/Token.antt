@@ -15,7 +15,9 @@ use Rattle.link_script_syntax.specs.declared.fault.ScriptErrorKind.{ScriptErrorK
 use Rattle.link_script_syntax.specs.declared.fault.ScriptErrorKind.TheVariants.{Syntax, InvalidUtf8String, InvalidGlobPattern}
 use Rattle.link_script_syntax.specs.declared.matcher.SymbolMatcher.{SymbolMatcher}
 use Rattle.link_script_syntax.specs.declared.matcher.SymbolMatcher.TheVariants.{Exact, EscapedExact, StarGlob, NonstarGlob, MatchesAll}
+use Rattle.link_script_syntax.specs.declared.profile.TokenEnd.{TokenEnd}
 use Rattle.link_script_syntax.specs.Fault.{◌>>=◌, refuse}
+use Rattle.link_script_syntax.specs.Profile.{is_end, IsUnended}
 
 -- without the space, tab, LF, FF and CR at the end
 unfoldable pub trimmed : List ℕ → List ℕ
@@ -70,22 +72,24 @@ token_ended text (Some end) =
     if end == 0 then refuse Syntax text else
     (matcher_of (length text) (trimmed (take end text)) >>= λ m. Ok (m, after_semicolon (drop end text)))
 
--- All bytes up to the first one that is stop, at least one; then a `;` is taken if it is there. The byte that
+-- All bytes up to the first one that ends a token, at least one; then a `;` is taken if it is there. The byte that
 -- ends a token is no blank and begins no comment, so nothing is skipped there.
-unfoldable pub token_at : ℕ → List ℕ → Result (SymbolMatcher × List ℕ) Fault
-token_at stop text = token_ended text (position (λ c. c == stop) text)
+unfoldable pub token_at : TokenEnd → List ℕ → Result (SymbolMatcher × List ℕ) Fault
+token_at end text = token_ended text (position (λ c. is_end end c) text)
 
 -- none of the bytes is this one
 abbrev pub Without : ℕ → List ℕ → Type 0
 Without stop [] = Unit {0}
 Without stop (c ∷ bytes) = (c ≢ stop) × Without stop bytes
 
--- The text is a token, the byte that ends it, and more: one byte at least, none of them that byte.
-pub record IsToken (stop : ℕ) (text : List ℕ) (m : SymbolMatcher) (rest : List ℕ) : Type 0 where
+-- The text is a token, the first byte that ends one, and more. A token has one byte at least.
+pub record IsToken (end : TokenEnd) (text : List ℕ) (m : SymbolMatcher) (rest : List ℕ) : Type 0 where
   pub bytes : List ℕ
+  pub stop : ℕ
   pub after : List ℕ
   pub whole : text ≡ bytes ++ stop ∷ after
   pub some : 0 < length bytes
-  pub plain : Without stop bytes
+  pub plain : IsUnended end bytes
+  pub ends : is_end end stop ≡ true
   pub means : matcher_of (length text) (trimmed bytes) ≡ Ok m
   pub follows : rest ≡ after_semicolon (stop ∷ after)

@@ -7,6 +7,7 @@ ghost use Rattle.link_script_syntax.specs.Block.{language_at, extern_text, inner
 
 use crate::fault::{Fault, Language, ReadError, ScriptErrorKind};
 use crate::matcher::SymbolMatcher;
+use crate::profile::TokenEnd;
 use crate::skip::{begins_with, is_blank, place_of, skip, strip, syntax};
 use crate::token::token_at;
 use link_names::{Name, Seq};
@@ -150,8 +151,12 @@ fn block_turn<'t>(
     let Some(place) = close.place_in(text) else {
         return Err(syntax(text.len()));
     };
-    let stop = if is_before(text, place) { b';' } else { b'}' };
-    let (matcher, rest) = token_at(alloc, stop, text)?;
+    let end = if is_before(text, place) {
+        TokenEnd::Semicolon
+    } else {
+        TokenEnd::Brace
+    };
+    let (matcher, rest) = token_at(alloc, end, text)?;
     Ok((Some(matcher), rest))
 }
 

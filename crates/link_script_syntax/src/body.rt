@@ -7,6 +7,7 @@ ghost use Rattle.link_script_syntax.specs.Body.{body_turn, body_at, pieces_at};
 use crate::entry::entry_at;
 use crate::fault::ReadError;
 use crate::matcher::ParsedSymbolMatcher;
+use crate::profile::ScriptProfile;
 use crate::skip::{skip, strip, syntax};
 use link_names::Seq;
 use std::alloc::Global;
@@ -34,8 +35,12 @@ pub enum Item {
 
 /// One turn of a body: a piece, or the body's end.
 #[tactic(auto, unfolding(crate::specs::Body::body_turn))]
-fn body_turn(alloc: Global, text: &[u8]) -> Result<(Option<Item>, &[u8]), ReadError>
-    ensures gives { Gives (λ x. (x.0, x.1.now)) result (body_turn text.now) }
+fn body_turn(
+    alloc: Global,
+    text: &[u8],
+    profile: ScriptProfile,
+) -> Result<(Option<Item>, &[u8]), ReadError>
+    ensures gives { Gives (λ x. (x.0, x.1.now)) result (body_turn profile text.now) }
     ensures shorter { IfOk result (λ x. IsSome x.0 → length x.1.now < length text.now) }
     ensures no_longer { IfOk result (λ x. length x.1.now ≤ length text.now) }
     ensures inside { IfErr result (λ e. IsWithin e (length text.now)) }
@@ -50,26 +55,34 @@ fn body_turn(alloc: Global, text: &[u8]) -> Result<(Option<Item>, &[u8]), ReadEr
     if let Some(rest) = strip(text, b"local:") {
         return Ok((Some(Item::Side(Side::Local)), rest));
     }
-    let (entry, rest) = entry_at(alloc, text)?;
+    let (entry, rest) = entry_at(alloc, text, profile)?;
     Ok((Some(Item::Entry(entry)), rest))
 }
 
 /// A body: its entries by section, and the text after it.
 #[tactic(auto, unfolding(crate::specs::Body::body_at))]
-pub fn body_at(alloc: Global, text: &[u8]) -> Result<(RawVersionBody, &[u8]), ReadError>
-    ensures gives { Gives (λ x. (x.0, x.1.now)) result (body_at text.now) }
+pub fn body_at(
+    alloc: Global,
+    text: &[u8],
+    profile: ScriptProfile,
+) -> Result<(RawVersionBody, &[u8]), ReadError>
+    ensures gives { Gives (λ x. (x.0, x.1.now)) result (body_at profile text.now) }
     ensures shorter { IfOk result (λ x. length x.1.now < length text.now) }
     ensures inside { IfErr result (λ e. IsWithin e (length text.now)) }
 {
     let Some(text) = strip(text, b"{") else {
         return Err(syntax(text.len()));
     };
-    pieces_at(alloc, text)
+    pieces_at(alloc, text, profile)
 }
 
 /// The entries up to the body's end.
-fn pieces_at(alloc: Global, text: &[u8]) -> Result<(RawVersionBody, &[u8]), ReadError>
-    ensures gives { Gives (λ x. (x.0, x.1.now)) result (pieces_at text.now) }
+fn pieces_at(
+    alloc: Global,
+    text: &[u8],
+    profile: ScriptProfile,
+) -> Result<(RawVersionBody, &[u8]), ReadError>
+    ensures gives { Gives (λ x. (x.0, x.1.now)) result (pieces_at profile text.now) }
     ensures shorter { IfOk result (λ x. length x.1.now ≤ length text.now) }
     ensures inside { IfErr result (λ e. IsWithin e (length text.now)) }
 {
@@ -78,7 +91,7 @@ fn pieces_at(alloc: Global, text: &[u8]) -> Result<(RawVersionBody, &[u8]), Read
     let mut now = Side::Global;
     let mut rest = text;
     'turns: loop {
-        let (item, after) = body_turn(alloc, rest)?;
+        let (item, after) = body_turn(alloc, rest, profile)?;
         rest = after;
         match item {
             None => return Ok((RawVersionBody { globals, locals }, rest)),

@@ -12,6 +12,7 @@ ghost use Rattle.link_script_syntax.specs.ForcedName.{forced_token, forced_name,
 use crate::entry::{entry_at, extern_at};
 use crate::fault::{ReadError, ScriptFault, placed};
 use crate::matcher::{ParsedSymbolMatcher, SymbolMatcher};
+use crate::profile::ScriptProfile;
 use crate::skip::{place_of, strip, syntax};
 use crate::token::{matcher_of, trimmed};
 use std::alloc::Global;
@@ -58,7 +59,7 @@ fn added_entry(
     if without_semicolon {
         forced_name(alloc, text)
     } else {
-        let (entry, _) = entry_at(alloc, text)?;
+        let (entry, _) = entry_at(alloc, text, ScriptProfile::Wild)?;
         Ok(entry)
     }
 }

@@ -12,14 +12,19 @@ ghost use Rattle.link_script_syntax.specs.GnuList.{list_turn, gnu_entries, gnu_l
 use crate::entry::entry_at;
 use crate::fault::{ReadError, ScriptFault, placed};
 use crate::matcher::ParsedSymbolMatcher;
+use crate::profile::ScriptProfile;
 use crate::skip::{skip, strip, syntax};
 use link_names::Seq;
 use std::alloc::Global;
 
 /// One turn of a list: an entry, or the list's end.
 #[tactic(auto, unfolding(crate::specs::GnuList::list_turn))]
-fn list_turn(alloc: Global, text: &[u8]) -> Result<(Option<ParsedSymbolMatcher>, &[u8]), ReadError>
-    ensures gives { Gives (λ x. (x.0, x.1.now)) result (list_turn text.now) }
+fn list_turn(
+    alloc: Global,
+    text: &[u8],
+    profile: ScriptProfile,
+) -> Result<(Option<ParsedSymbolMatcher>, &[u8]), ReadError>
+    ensures gives { Gives (λ x. (x.0, x.1.now)) result (list_turn profile text.now) }
     ensures shorter { IfOk result (λ x. IsSome x.0 → length x.1.now < length text.now) }
     ensures no_longer { IfOk result (λ x. length x.1.now ≤ length text.now) }
     ensures inside { IfErr result (λ e. IsWithin e (length text.now)) }
@@ -28,20 +33,24 @@ fn list_turn(alloc: Global, text: &[u8]) -> Result<(Option<ParsedSymbolMatcher>,
     if let Some(rest) = strip(text, b"};") {
         return Ok((None, rest));
     }
-    let (entry, rest) = entry_at(alloc, text)?;
+    let (entry, rest) = entry_at(alloc, text, profile)?;
     Ok((Some(entry), rest))
 }
 
 /// The entries up to the list's end, and the text after it.
-fn gnu_entries(alloc: Global, text: &[u8]) -> Result<(Seq<ParsedSymbolMatcher>, &[u8]), ReadError>
-    ensures gives { Gives (λ x. (x.0, x.1.now)) result (gnu_entries text.now) }
+fn gnu_entries(
+    alloc: Global,
+    text: &[u8],
+    profile: ScriptProfile,
+) -> Result<(Seq<ParsedSymbolMatcher>, &[u8]), ReadError>
+    ensures gives { Gives (λ x. (x.0, x.1.now)) result (gnu_entries profile text.now) }
     ensures shorter { IfOk result (λ x. length x.1.now ≤ length text.now) }
     ensures inside { IfErr result (λ e. IsWithin e (length text.now)) }
 {
     let mut entries = Seq::new(alloc);
     let mut rest = text;
     'turns: loop {
-        let (entry, after) = list_turn(alloc, rest)?;
+        let (entry, after) = list_turn(alloc, rest, profile)?;
         let Some(entry) = entry else {
             return Ok((entries, after));
         };
@@ -52,15 +61,19 @@ fn gnu_entries(alloc: Global, text: &[u8]) -> Result<(Seq<ParsedSymbolMatcher>, 
 
 /// The entries of a GNU export list.
 #[tactic(auto, unfolding(crate::specs::GnuList::gnu_list))]
-fn gnu_list(alloc: Global, text: &[u8]) -> Result<Seq<ParsedSymbolMatcher>, ReadError>
-    ensures gives { Gives (λ x. x) result (gnu_list text.now) }
+fn gnu_list(
+    alloc: Global,
+    text: &[u8],
+    profile: ScriptProfile,
+) -> Result<Seq<ParsedSymbolMatcher>, ReadError>
+    ensures gives { Gives (λ x. x) result (gnu_list profile text.now) }
     ensures inside { IfErr result (λ e. IsWithin e (length text.now)) }
 {
     let text = skip(text)?;
     let Some(text) = strip(text, b"{") else {
         return Err(syntax(text.len()));
     };
-    let (entries, text) = gnu_entries(alloc, text)?;
+    let (entries, text) = gnu_entries(alloc, text, profile)?;
     let rest = skip(text)?;
     if !rest.is_empty() {
         return Err(syntax(rest.len()));
@@ -68,28 +81,36 @@ fn gnu_list(alloc: Global, text: &[u8]) -> Result<Seq<ParsedSymbolMatcher>, Read
     Ok(entries)
 }
 
-/// The entries of a GNU export list, as the text of GNU ld's `--dynamic-list`. The fault is the first one from the left,
-/// at its byte.
-pub fn read_gnu_list(alloc: Global, text: &[u8]) -> Result<Seq<ParsedSymbolMatcher>, ScriptFault>
+/// The entries of a GNU export list, as the text of GNU ld's `--dynamic-list`, in a profile. The fault is the first one from
+/// the left, at its byte.
+pub fn read_gnu_list(
+    alloc: Global,
+    text: &[u8],
+    profile: ScriptProfile,
+) -> Result<Seq<ParsedSymbolMatcher>, ScriptFault>
     // What is read is spelled so by the grammar.
-    ensures found { IfOk result (λ entries. IsExportList text.now entries) }
+    ensures found { IfOk result (λ entries. IsExportList profile text.now entries) }
     // What is spelled so is read, unless memory runs out.
-    ensures only { (entries : List ParsedSymbolMatcher) → IsExportList text.now entries → IsRead entries result }
+    ensures only { (entries : List ParsedSymbolMatcher) → IsExportList profile text.now entries → IsRead entries result }
     // What is refused is a fault that the text has by the grammar, at its place.
-    ensures refused { IfErr result (λ e. IsFaultOf (ListFails text.now) text.now e) }
+    ensures refused { IfErr result (λ e. IsFaultOf (ListFails profile text.now) text.now e) }
     // A fault that the text has is answered, unless memory runs out.
-    ensures refuses { (kind : ScriptErrorKind) (at : List ℕ) → ListFails text.now kind at → IsRefusedWith kind at text.now result }
+    ensures refuses { (kind : ScriptErrorKind) (at : List ℕ) → ListFails profile text.now kind at → IsRefusedWith kind at text.now result }
     // The same as a function, for the layers above.
-    ensures exact { Answers (λ entries. entries) text.now result (gnu_list text.now) }
+    ensures exact { Answers (λ entries. entries) text.now result (gnu_list profile text.now) }
 {
-    read_list(alloc, text)
+    read_list(alloc, text, profile)
 }
 
 /// The same, by what reading gives alone.
-fn read_list(alloc: Global, text: &[u8]) -> Result<Seq<ParsedSymbolMatcher>, ScriptFault>
-    ensures reads { Answers (λ entries. entries) text.now result (gnu_list text.now) }
+fn read_list(
+    alloc: Global,
+    text: &[u8],
+    profile: ScriptProfile,
+) -> Result<Seq<ParsedSymbolMatcher>, ScriptFault>
+    ensures reads { Answers (λ entries. entries) text.now result (gnu_list profile text.now) }
 {
-    match gnu_list(alloc, text) {
+    match gnu_list(alloc, text, profile) {
         Ok(entries) => Ok(entries),
         Err(error) => Err(placed(error, text.len())),
     }

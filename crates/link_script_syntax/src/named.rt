@@ -7,6 +7,7 @@ ghost use Rattle.link_script_syntax.specs.Named.{is_name_byte, name_len, parent_
 use crate::body::{RawVersionBody, body_at};
 use crate::fault::{Fault, ReadError, ScriptErrorKind};
 use crate::numbered::NumberedVersions;
+use crate::profile::ScriptProfile;
 use crate::skip::{place_of, skip, syntax};
 use link_names::{Name, Seq};
 use std::alloc::Global;
@@ -79,8 +80,9 @@ fn named_at<'t>(
     alloc: Global,
     versions: &NumberedVersions,
     text: &'t [u8],
+    profile: ScriptProfile,
 ) -> Result<(RawVersion, &'t [u8]), ReadError>
-    ensures gives { Gives (λ x. (x.0, x.1.now)) result (named_at versions.now text.now) }
+    ensures gives { Gives (λ x. (x.0, x.1.now)) result (named_at profile versions.now text.now) }
     ensures room { IfOk result (λ x. length versions.now < 32_766) }
     ensures shorter { IfOk result (λ x. length x.1.now < length text.now) }
     ensures inside { IfErr result (λ e. IsWithin e (length text.now)) }
@@ -97,7 +99,7 @@ fn named_at<'t>(
     }
     let (name, rest) = text.split_at(len);
     let rest = skip(rest)?;
-    let (body, rest) = body_at(alloc, rest)?;
+    let (body, rest) = body_at(alloc, rest, profile)?;
     let (parent_index, rest) = parent_at(versions, rest)?;
     let rest = skip(rest)?;
     Ok((
@@ -111,15 +113,19 @@ fn named_at<'t>(
 }
 
 /// All versions up to the end of the text.
-pub fn versions_at(alloc: Global, text: &[u8]) -> Result<Seq<RawVersion>, ReadError>
-    ensures gives { Gives (λ v. v) result (versions_at text.now) }
+pub fn versions_at(
+    alloc: Global,
+    text: &[u8],
+    profile: ScriptProfile,
+) -> Result<Seq<RawVersion>, ReadError>
+    ensures gives { Gives (λ v. v) result (versions_at profile text.now) }
     ensures few { IfOk result (λ v. length v < 32_767) }
     ensures inside { IfErr result (λ e. IsWithin e (length text.now)) }
 {
     let mut versions = NumberedVersions::new(alloc);
     let mut rest = text;
     'versions: while !rest.is_empty() {
-        let (version, after) = named_at(alloc, &versions, rest)?;
+        let (version, after) = named_at(alloc, &versions, rest, profile)?;
         versions = versions.with(alloc, version)?;
         rest = after;
     }

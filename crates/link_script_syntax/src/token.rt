@@ -1,13 +1,15 @@
 //! One name or pattern of a script.
 
-ghost use Rattle.std.specs.Prelude.{List, ℕ, Ok, ◌≡◌, ◌<◌, ◌≤◌, length, IfOk, IfErr};
+ghost use Rattle.std.specs.Prelude.{List, ℕ, Ok, ◌≡◌, ◌<◌, ◌≤◌, length, position, IfOk, IfErr, IfSome};
 ghost use Rattle.link_script_syntax.specs.Fault.{IsWithin, Gives};
 ghost use Rattle.link_script_syntax.specs.declared.matcher.SymbolMatcher.{SymbolMatcher};
+ghost use Rattle.link_script_syntax.specs.Profile.{is_end};
 ghost use Rattle.link_script_syntax.specs.Token.{IsToken, matcher_of, glob_at, token_at, after_semicolon, trimmed};
 
 use crate::fault::{Fault, ReadError, ScriptErrorKind};
 use crate::matcher::SymbolMatcher;
-use crate::skip::{place_of, syntax};
+use crate::profile::TokenEnd;
+use crate::skip::syntax;
 use link_glob::{
     GlobError, GlobPatternType, analyze_glob_pattern, compile_glob_pattern, unescape_pattern,
 };
@@ -81,32 +83,44 @@ fn after_semicolon(text: &[u8]) -> &[u8]
     }
 }
 
-/// A token up to this byte.
-pub fn token_at(alloc: Global, stop: u8, text: &[u8]) -> Result<(SymbolMatcher, &[u8]), ReadError>
-    ensures gives { Gives (λ x. (x.0, x.1.now)) result (token_at stop text.now) }
+/// Where the first byte stands that ends a token.
+fn place_of_end(end: TokenEnd, text: &[u8]) -> Option<usize>
+    ensures value { result ≡ position (λ c. is_end end c) text.now }
+    ensures within { IfSome result (λ n. n < length text.now) }
+{
+    text.iter().position(|byte| end.is_end(*byte))
+}
+
+/// A token up to the first byte that ends one.
+pub fn token_at(
+    alloc: Global,
+    end: TokenEnd,
+    text: &[u8],
+) -> Result<(SymbolMatcher, &[u8]), ReadError>
+    ensures gives { Gives (λ x. (x.0, x.1.now)) result (token_at end text.now) }
     // What is read is a token, and a token is read.
-    ensures found { IfOk result (λ x. IsToken stop text.now x.0 x.1.now) }
-    ensures only { (m : SymbolMatcher) (rest : List ℕ) → IsToken stop text.now m rest → Gives {Y = SymbolMatcher × List ℕ} (λ x. (x.0, x.1.now)) result (Ok (m, rest)) }
+    ensures found { IfOk result (λ x. IsToken end text.now x.0 x.1.now) }
+    ensures only { (m : SymbolMatcher) (rest : List ℕ) → IsToken end text.now m rest → Gives {Y = SymbolMatcher × List ℕ} (λ x. (x.0, x.1.now)) result (Ok (m, rest)) }
     ensures shorter { IfOk result (λ x. length x.1.now < length text.now) }
     ensures inside { IfErr result (λ e. IsWithin e (length text.now)) }
 {
-    token_run(alloc, stop, text)
+    token_run(alloc, end, text)
 }
 
 /// The same, by what reading gives alone.
 #[tactic(auto, unfolding(crate::specs::Token::token_at))]
-fn token_run(alloc: Global, stop: u8, text: &[u8]) -> Result<(SymbolMatcher, &[u8]), ReadError>
-    ensures gives { Gives (λ x. (x.0, x.1.now)) result (token_at stop text.now) }
+fn token_run(alloc: Global, end: TokenEnd, text: &[u8]) -> Result<(SymbolMatcher, &[u8]), ReadError>
+    ensures gives { Gives (λ x. (x.0, x.1.now)) result (token_at end text.now) }
     ensures shorter { IfOk result (λ x. length x.1.now < length text.now) }
     ensures inside { IfErr result (λ e. IsWithin e (length text.now)) }
 {
-    let Some(end) = place_of(stop, text) else {
+    let Some(len) = place_of_end(end, text) else {
         return Err(syntax(text.len()));
     };
-    if end == 0 {
+    if len == 0 {
         return Err(syntax(text.len()));
     }
-    let (token, rest) = text.split_at(end);
+    let (token, rest) = text.split_at(len);
     let matcher = matcher_of(alloc, text.len(), trimmed(token))?;
     Ok((matcher, after_semicolon(rest)))
 }

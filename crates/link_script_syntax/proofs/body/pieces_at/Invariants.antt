@@ -4,7 +4,7 @@ use Rattle.link_script_syntax.proofs.body.pieces_at.Given as goal
 
 abbrev pub invariant-turns : goal.invariant-turns
 invariant-turns l = record {
-  sorted : Sorted l.globals l.locals l.now l.rest l.text;
+  sorted : Sorted l.profile l.globals l.locals l.now l.rest l.text;
   shorter : length l.rest ≤ length l.text;
 }
 

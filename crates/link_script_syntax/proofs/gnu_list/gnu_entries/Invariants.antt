@@ -5,7 +5,7 @@ use Rattle.link_script_syntax.proofs.gnu_list.gnu_entries.Given as goal
 
 abbrev pub invariant-turns : goal.invariant-turns
 invariant-turns l = record {
-  reads : grow (alone list_turn) l.entries l.rest ≡ many list_turn l.text;
+  reads : grow (alone (list_turn l.profile)) l.entries l.rest ≡ many (list_turn l.profile) l.text;
   shorter : length l.rest ≤ length l.text;
 }
 
