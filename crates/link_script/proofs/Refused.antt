@@ -3,6 +3,7 @@ use Rattle.std.proofs.Common.{◌≡◌, ℕ, Bool, List, length, Result, Ok, Er
 use Rattle.std.specs.Prelude.{IfOk, IfErr, OnOk}
 use Rattle.link_script_syntax.specs.declared.fault.Fault.{Fault}
 use Rattle.link_script_syntax.specs.declared.fault.ScriptErrorKind.{ScriptErrorKind}
+use Rattle.link_script_syntax.specs.declared.profile.ScriptProfile.{ScriptProfile}
 use Rattle.link_script_syntax.specs.declared.fault.ScriptFault.{ScriptFault}
 use Rattle.link_script_syntax.specs.Fault.{Refuses}
 use Rattle.link_script_syntax.specs.ForcedName.{added_entry}
@@ -33,9 +34,9 @@ is_refused {A} {X} text read says fails j (Err e) has refused kind at f = refuse
 
 -- ---- what each call has read
 
-pub gnu_read : (text : List ℕ) (r : Result ExportList ScriptFault) → IfOk r (λ list. IsGnuList text list) → HasRead (gnu_list text) r
-gnu_read text (Ok list) read = (read.0, read.1)
-gnu_read text (Err e) read = tt
+pub gnu_read : (profile : ScriptProfile) (text : List ℕ) (r : Result ExportList ScriptFault) → IfOk r (λ list. IsGnuList profile text list) → HasRead (gnu_list profile text) r
+gnu_read profile text (Ok list) read = (read.0, read.1)
+gnu_read profile text (Err e) read = tt
 
 pub macho_read : (text : List ℕ) (r : Result ExportList ScriptFault) → IfOk r (λ list. IsMachoList text list) → HasRead (macho_list text) r
 macho_read text (Ok list) read = (read.0, read.1)

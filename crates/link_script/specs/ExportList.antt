@@ -4,6 +4,7 @@ use Rattle.link_script.specs.declared.export_list.ExportList.{ExportList}
 use Rattle.link_script_syntax.specs.declared.matcher.SymbolMatcher.{SymbolMatcher}
 use Rattle.link_script_syntax.specs.declared.matcher.ParsedSymbolMatcher.{ParsedSymbolMatcher}
 use Rattle.link_script_syntax.specs.declared.matcher.ParsedSymbolMatcher.TheVariants.{Multiple}
+use Rattle.link_script_syntax.specs.declared.profile.ScriptProfile.{ScriptProfile}
 use Rattle.link_script.specs.Filter.{Filter, HasFilter, of_language, EntryHas, EntriesHave}
 use Rattle.link_script_syntax.specs.ForcedName.{added_entry}
 use Rattle.link_script_syntax.specs.GnuList.{gnu_list}
@@ -29,8 +30,8 @@ pub record IsListOf (entries : List ParsedSymbolMatcher) (required : List (List 
   pub names : required_names list ≡ required
 
 -- A GNU list requires no name.
-abbrev pub IsGnuList : List ℕ → ExportList → Type 0
-IsGnuList text list = (entries : List ParsedSymbolMatcher) × (gnu_list text ≡ Ok entries) × IsListOf entries [] list
+abbrev pub IsGnuList : ScriptProfile → List ℕ → ExportList → Type 0
+IsGnuList profile text list = (entries : List ParsedSymbolMatcher) × (gnu_list profile text ≡ Ok entries) × IsListOf entries [] list
 
 -- A Mach-O list requires the names that stand in it as they are.
 abbrev pub IsMachoList : List ℕ → ExportList → Type 0

@@ -4,6 +4,7 @@ use Rattle.link_script.specs.declared.export_list.ExportList.{ExportList}
 use Rattle.link_script_syntax.specs.declared.fault.Fault.{Fault}
 use Rattle.link_script_syntax.specs.declared.matcher.ParsedSymbolMatcher.{ParsedSymbolMatcher}
 use Rattle.link_script_syntax.specs.declared.matcher.ParsedSymbolMatcher.TheVariants.{Multiple}
+use Rattle.link_script_syntax.specs.declared.profile.ScriptProfile.{ScriptProfile}
 use Rattle.link_script.specs.ExportList.{IsListOf}
 use Rattle.link_script_syntax.specs.Fault.{◌>>=◌}
 use Rattle.link_script_syntax.specs.GnuList.{gnu_list}
@@ -19,8 +20,8 @@ abbrev pub no_names : ListedNames
 no_names = record { entries = []; required = [] }
 
 -- a list of GNU ld requires no name
-abbrev pub gnu_names : List ℕ → Result ListedNames Fault
-gnu_names text = gnu_list text >>= λ entries. Ok (record { entries = entries; required = [] })
+abbrev pub gnu_names : ScriptProfile → List ℕ → Result ListedNames Fault
+gnu_names profile text = gnu_list profile text >>= λ entries. Ok (record { entries = entries; required = [] })
 
 -- a list of Mach-O requires the names that stand in it as they are
 abbrev pub macho_names : List ℕ → Result ListedNames Fault

@@ -23,6 +23,10 @@ answered (Err e) = Err (record { name = e.name.now; version = e.version.now })
 abbrev pub version_names : List Version → List (List ℕ)
 version_names versions = map (λ (v : Version). v.name) versions
 
+-- the version of what is global without a version's name (`VER_NDX_GLOBAL` of the LSB)
+abbrev pub ver_ndx_global : ℕ
+ver_ndx_global = 1
+
 -- the version of a match: 1 more than its number, and none for number 0
 abbrev pub matched : Option (ℕ × Side) → Option ℕ
 matched None = None
@@ -46,7 +50,7 @@ IsUndeclared names name = (j : ℕ) → slice_get names j ≡ Some name → ⊥
 abbrev pub IsVersionOf : (ℕ → Side → Bool → Filter → Type 0) → List (List ℕ) → Asked → Option (List ℕ) → Result (Option ℕ) Undeclared → Type 0
 IsVersionOf has names a None (Ok v) = (r : Option (ℕ × Side)) × IsBest has a r × (v ≡ matched r)
 IsVersionOf has names a None (Err e) = ⊥
-IsVersionOf has names a (Some []) (Ok v) = v ≡ Some 1
+IsVersionOf has names a (Some []) (Ok v) = v ≡ Some ver_ndx_global
 IsVersionOf has names a (Some []) (Err e) = ⊥
 IsVersionOf has names a (Some (c ∷ version)) (Ok v) = (n : ℕ) × IsLastNamed names (c ∷ version) n × (v ≡ Some (suc n))
 IsVersionOf has names a (Some (c ∷ version)) (Err e) = IsUndeclared names (c ∷ version) × (e ≡ record { name = a.bytes; version = c ∷ version })
@@ -68,7 +72,7 @@ declared_as e (Some n) = Ok (Some (suc n))
 abbrev pub version_of : List Version → Asked → Option (List ℕ) → Result (Option ℕ) Undeclared
 version_of versions a None = Ok (matched (best_match versions a))
 version_of versions a (Some version) =
-    if length version == 0 then Ok (Some 1) else declared_as (record { name = a.bytes; version = version }) (last_named versions version (length versions))
+    if length version == 0 then Ok (Some ver_ndx_global) else declared_as (record { name = a.bytes; version = version }) (last_named versions version (length versions))
 
 -- whether the strongest match of a name is local, as a function
 abbrev pub is_local_in : List Version → Asked → Bool

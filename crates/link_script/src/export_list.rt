@@ -17,8 +17,8 @@ use crate::rank::{cxx_fits, plain_fits};
 use crate::rules::{Class, MatchRules};
 use link_names::{Name, Seq};
 use link_script_syntax::{
-    ParsedSymbolMatcher, ScriptFault, SymbolMatcher, read_added_entry, read_gnu_list,
-    read_macho_list,
+    ParsedSymbolMatcher, ScriptFault, ScriptProfile, SymbolMatcher, read_added_entry,
+    read_gnu_list, read_macho_list,
 };
 use std::alloc::{AllocError, Global};
 
@@ -90,11 +90,15 @@ impl ExportList {
     }
 
     /// The list of a GNU text, by what reading gives alone.
-    fn read_gnu(alloc: Global, text: &[u8]) -> Result<ExportList, ScriptFault>
-        ensures read { IfOk result (λ list. IsGnuList text.now list) }
-        ensures refused { IfErr result (λ e. Refuses e text.now (gnu_list text.now)) }
+    fn read_gnu(
+        alloc: Global,
+        text: &[u8],
+        profile: ScriptProfile,
+    ) -> Result<ExportList, ScriptFault>
+        ensures read { IfOk result (λ list. IsGnuList profile text.now list) }
+        ensures refused { IfErr result (λ e. Refuses e text.now (gnu_list profile text.now)) }
     {
-        let entries = read_gnu_list(alloc, text)?;
+        let entries = read_gnu_list(alloc, text, profile)?;
         let mut rules = MatchRules::from_entries(alloc, entries)?;
         rules.make_index()?;
         let required = Seq::new(alloc);
@@ -105,17 +109,21 @@ impl ExportList {
         })
     }
 
-    /// The list that the text of GNU ld's `--dynamic-list` spells. It requires no names.
+    /// The list that the text of GNU ld's `--dynamic-list` spells, in a profile. It requires no names.
     ///
     /// A text that is no such list is refused with its first fault and that fault's place.
-    pub fn parse_gnu(alloc: Global, text: &[u8]) -> Result<ExportList, ScriptFault>
-        ensures read { IfOk result (λ list. IsGnuList text.now list) }
-        ensures refused { IfErr result (λ e. Refuses e text.now (gnu_list text.now)) }
+    pub fn parse_gnu(
+        alloc: Global,
+        text: &[u8],
+        profile: ScriptProfile,
+    ) -> Result<ExportList, ScriptFault>
+        ensures read { IfOk result (λ list. IsGnuList profile text.now list) }
+        ensures refused { IfErr result (λ e. Refuses e text.now (gnu_list profile text.now)) }
         // By the grammar: what is refused is a fault of the text, at its place, and a text that has one is refused with it.
-        ensures faulty { IfErr result (λ e. IsFaultOf (ListFails text.now) text.now e) }
-        ensures refuses { (kind : ScriptErrorKind) (at : List ℕ) → ListFails text.now kind at → IsRefusedWith kind at text.now result }
+        ensures faulty { IfErr result (λ e. IsFaultOf (ListFails profile text.now) text.now e) }
+        ensures refuses { (kind : ScriptErrorKind) (at : List ℕ) → ListFails profile text.now kind at → IsRefusedWith kind at text.now result }
     {
-        ExportList::read_gnu(alloc, text)
+        ExportList::read_gnu(alloc, text, profile)
     }
 
     /// The list of a Mach-O text, by what reading gives alone.

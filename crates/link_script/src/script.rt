@@ -15,7 +15,7 @@ use crate::lookup::Demangler;
 use crate::regular::RegularVersionScript;
 use crate::rust_form::{RustFormError, RustVersionScript};
 use crate::symbol_version::UndefinedVersion;
-use link_script_syntax::{RawScript, RawVersionBody, ScriptFault};
+use link_script_syntax::{RawScript, RawVersionBody, ScriptFault, ScriptProfile};
 use std::alloc::{AllocError, Global};
 
 /// A version script (GNU ld's VERSION syntax). Mirrors Wild's `VersionScript`.
@@ -28,10 +28,14 @@ pub enum VersionScript {
 }
 
 /// The script of a text, by what reading gives alone.
-fn parse_script(alloc: Global, text: &[u8]) -> Result<VersionScript, ScriptFault>
-    ensures { Parses text.now result (script_at text.now) }
+fn parse_script(
+    alloc: Global,
+    text: &[u8],
+    profile: ScriptProfile,
+) -> Result<VersionScript, ScriptFault>
+    ensures { Parses text.now result (script_at profile text.now) }
 {
-    match RawScript::parse(alloc, text)? {
+    match RawScript::parse(alloc, text, profile)? {
         RawScript::Anonymous(body) => Ok(VersionScript::from_raw(alloc, body)?),
         RawScript::Named(named) => {
             Ok(VersionScript::Regular(RegularVersionScript::from_named(alloc, named)?))
@@ -40,20 +44,24 @@ fn parse_script(alloc: Global, text: &[u8]) -> Result<VersionScript, ScriptFault
 }
 
 impl VersionScript {
-    /// Reads a version script. The fault is the first one from the left, at its byte.
-    pub fn parse(alloc: Global, text: &[u8]) -> Result<VersionScript, ScriptFault>
+    /// Reads a version script in a profile. The fault is the first one from the left, at its byte.
+    pub fn parse(
+        alloc: Global,
+        text: &[u8],
+        profile: ScriptProfile,
+    ) -> Result<VersionScript, ScriptFault>
         // What is read is spelled so by the grammar.
-        ensures found { IfOk result (λ script. (raw : RawScript) × IsVersionScript text.now raw × IsScriptOf raw script) }
+        ensures found { IfOk result (λ script. (raw : RawScript) × IsVersionScript profile text.now raw × IsScriptOf raw script) }
         // What is spelled so is read, unless memory runs out.
-        ensures only { (raw : RawScript) → IsVersionScript text.now raw → IsSpelledBy raw result }
+        ensures only { (raw : RawScript) → IsVersionScript profile text.now raw → IsSpelledBy raw result }
         // What is refused is a fault that the text has by the grammar, at its place.
-        ensures refused { IfErr result (λ e. IsFaultOf (ScriptFails text.now) text.now e) }
+        ensures refused { IfErr result (λ e. IsFaultOf (ScriptFails profile text.now) text.now e) }
         // A fault that the text has is answered, unless memory runs out.
-        ensures refuses { (kind : ScriptErrorKind) (at : List ℕ) → ScriptFails text.now kind at → IsRefusedWith kind at text.now result }
+        ensures refuses { (kind : ScriptErrorKind) (at : List ℕ) → ScriptFails profile text.now kind at → IsRefusedWith kind at text.now result }
         // The same as a function, for the layers above.
-        ensures exact { Parses text.now result (script_at text.now) }
+        ensures exact { Parses text.now result (script_at profile text.now) }
     {
-        parse_script(alloc, text)
+        parse_script(alloc, text, profile)
     }
 
     /// The script without versions, which stands where none is given. Takes no memory.

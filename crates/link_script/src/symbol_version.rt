@@ -11,6 +11,9 @@ use crate::rank::find_match;
 use crate::rules::Version;
 use crate::version_index::VersionIndex;
 
+/// The version of what is global without a version's name (LSB, "Symbol Versioning").
+const VER_NDX_GLOBAL: u16 = 1;
+
 /// A symbol that asks for a version that the script doesn't declare.
 #[derive(Clone, Copy, Debug)]
 pub struct UndefinedVersion<'a> {
@@ -34,7 +37,7 @@ pub fn version_for_symbol<'a, D: Demangler>(
 {
     if let Some(version) = explicit {
         if version.is_empty() {
-            return Ok(Some(1));
+            return Ok(Some(VER_NDX_GLOBAL));
         }
         return match index.last_named(version) {
             Some(number) => Ok(Some(number + 1)),

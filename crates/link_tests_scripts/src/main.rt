@@ -3,8 +3,9 @@
 //!
 //! A line is cut at `|`: a kind, a text, and names. `%HH` stands for the byte of these two hexadecimal digits. The kinds are
 //! `script`, a version script, where a name may ask for a version behind `@`; `gnu` and `macho`, export lists; `entry` and
-//! `forced`, a name that is added to an empty list, with its semicolon or without it. Empty lines, and those that begin with
-//! `//`, are not read.
+//! `forced`, a name that is added to an empty list, with its semicolon or without it; `lenient script` and `lenient gnu`, a
+//! version script and an export list that the lenient profile reads. Empty lines, and those that begin with `//`, are not
+//! read.
 #![tactic(auto)]
 
 ghost use Rattle.std.specs.Prelude.{◌<◌};
@@ -12,7 +13,7 @@ ghost use Rattle.std.specs.Prelude.{◌<◌};
 use link_names::Name;
 use link_program_streams::{RealSink, RealSource, read_all, write_all};
 use link_script::{ExportList, Plain, VersionScript};
-use link_script_syntax::ScriptFault;
+use link_script_syntax::{ScriptFault, ScriptProfile};
 use std::alloc::{AllocError, Global};
 use std::fmt::Write;
 use std::process::ExitCode;
@@ -110,6 +111,20 @@ fn add_script(
     Ok(())
 }
 
+/// Adds what the text of a version script gives in a profile, or its fault.
+fn add_text_of_script(
+    text: &mut String,
+    alloc: Global,
+    bytes: &[u8],
+    profile: ScriptProfile,
+    names: &[Vec<u8>],
+) -> Result<(), AllocError> {
+    match VersionScript::parse(alloc, bytes, profile) {
+        Ok(script) => add_script(text, alloc, &script, names),
+        Err(fault) => add_fault(text, fault),
+    }
+}
+
 /// Adds what an export list gives: the names that it requires, and which of these names it has.
 fn add_list(
     text: &mut String,
@@ -162,11 +177,16 @@ fn add_answer(
     names: &[Vec<u8>],
 ) -> Result<(), AllocError> {
     match kind {
-        b"script" => match VersionScript::parse(alloc, bytes) {
-            Ok(script) => add_script(text, alloc, &script, names),
-            Err(fault) => add_fault(text, fault),
-        },
-        b"gnu" => add_list_or_fault(text, alloc, ExportList::parse_gnu(alloc, bytes), names),
+        b"script" => add_text_of_script(text, alloc, bytes, ScriptProfile::Wild, names),
+        b"lenient script" => add_text_of_script(text, alloc, bytes, ScriptProfile::Lenient, names),
+        b"gnu" => {
+            let list = ExportList::parse_gnu(alloc, bytes, ScriptProfile::Wild);
+            add_list_or_fault(text, alloc, list, names)
+        }
+        b"lenient gnu" => {
+            let list = ExportList::parse_gnu(alloc, bytes, ScriptProfile::Lenient);
+            add_list_or_fault(text, alloc, list, names)
+        }
         b"macho" => add_list_or_fault(text, alloc, ExportList::parse_macho(alloc, bytes), names),
         b"entry" => add_list_or_fault(text, alloc, list_with(alloc, bytes, false), names),
         b"forced" => add_list_or_fault(text, alloc, list_with(alloc, bytes, true), names),

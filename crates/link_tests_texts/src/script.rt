@@ -3,12 +3,12 @@
 
 use link_names::Name;
 use link_script::{BasicMatchRules, Demangler, ExportList, MatchRules, Plain, VersionScript};
-use link_script_syntax::SymbolMatcher;
+use link_script_syntax::{ScriptProfile, SymbolMatcher};
 use std::alloc::{AllocError, Global};
 use std::test::Fail;
 
 fn script(alloc: Global, text: &[u8]) -> Result<VersionScript, Fail> {
-    match VersionScript::parse(alloc, text) {
+    match VersionScript::parse(alloc, text, ScriptProfile::Wild) {
         Ok(script) => Ok(script),
         Err(_) => Err(Fail::from("a version script")),
     }
@@ -121,7 +121,7 @@ fn is_chain(script: &VersionScript) -> bool {
 
 /// Whether the text is a script that is such a chain.
 fn is_text_of_chain(alloc: Global, text: &[u8]) -> bool {
-    match VersionScript::parse(alloc, text) {
+    match VersionScript::parse(alloc, text, ScriptProfile::Wild) {
         Ok(script) => is_chain(&script),
         Err(_) => false,
     }

@@ -3,15 +3,15 @@
 ghost use Rattle.std.specs.Prelude.{◌≤◌, length};
 
 use link_script_syntax::{
-    ParsedSymbolMatcher, RawScript, ScriptFault, SymbolMatcher, parse_matcher, read_added_entry,
-    read_gnu_list, read_macho_list,
+    ParsedSymbolMatcher, RawScript, ScriptFault, ScriptProfile, SymbolMatcher, parse_matcher,
+    read_added_entry, read_gnu_list, read_macho_list,
 };
 use std::alloc::{AllocError, Global};
 use std::test::Fail;
 
 /// Whether reading the text has this outcome: the text of the fault, `read` where there is none.
 fn has_outcome(alloc: Global, text: &[u8], want: &str) -> Result<bool, AllocError> {
-    match RawScript::parse(alloc, text) {
+    match RawScript::parse(alloc, text, ScriptProfile::Wild) {
         Ok(_) => Ok(want == "read"),
         Err(ScriptFault::Memory) => Ok(false),
         Err(ScriptFault::Text(error)) => Ok(format!(in alloc; "{error}")?.as_str() == want),
@@ -49,10 +49,17 @@ fn is_cxx(entry: &ParsedSymbolMatcher, count: usize) -> bool {
 }
 
 /// Whether the entry at this place is this one name, and ends in front of that place.
-fn has_name_at(alloc: Global, text: &[u8], at: usize, name: &[u8], end: usize) -> bool
+fn has_name_at(
+    alloc: Global,
+    text: &[u8],
+    at: usize,
+    profile: ScriptProfile,
+    name: &[u8],
+    end: usize,
+) -> bool
     requires { at ≤ length text.now }
 {
-    match parse_matcher(alloc, text, at) {
+    match parse_matcher(alloc, text, at, profile) {
         Ok((entry, behind)) => is_name(&entry, name) && behind == end,
         Err(_) => false,
     }
@@ -60,7 +67,7 @@ fn has_name_at(alloc: Global, text: &[u8], at: usize, name: &[u8], end: usize) -
 
 /// Whether the whole text is a block of C++ with so many patterns.
 fn is_cxx_block(alloc: Global, text: &[u8], count: usize) -> bool {
-    match parse_matcher(alloc, text, 0) {
+    match parse_matcher(alloc, text, 0, ScriptProfile::Wild) {
         Ok((entry, behind)) => is_cxx(&entry, count) && behind == text.len(),
         Err(_) => false,
     }
@@ -76,7 +83,7 @@ fn is_added_name(alloc: Global, text: &[u8], name: &[u8]) -> bool {
 
 /// Whether the text is a list of ELF with so many entries.
 fn has_gnu_entries(alloc: Global, text: &[u8], count: usize) -> bool {
-    match read_gnu_list(alloc, text) {
+    match read_gnu_list(alloc, text, ScriptProfile::Lenient) {
         Ok(entries) => entries.len() == count,
         Err(_) => false,
     }
@@ -166,9 +173,19 @@ fn long_texts(rt: HostRuntime) -> Result<(), Fail> {
 #[test]
 fn entries_and_lists(rt: HostRuntime) {
     let alloc = rt.alloc();
-    assert!(rt; has_name_at(alloc, b"x; a b ; rest", 3, b"a b", 8));
+    assert!(rt; has_name_at(alloc, b"x; a b ; rest", 3, ScriptProfile::Wild, b"a b", 8));
+    assert!(rt;
+        has_name_at(
+            alloc,
+            b"x; a b } rest;",
+            3,
+            ScriptProfile::Lenient,
+            b"a b",
+            7
+        )
+    );
     assert!(rt; is_added_name(alloc, b"a", b"a"));
-    assert!(rt; has_gnu_entries(alloc, b"{ a; extern \"C\" { b; }; };", 2));
+    assert!(rt; has_gnu_entries(alloc, b"{ a; extern \"C\" { b; }; c };", 3));
     assert!(rt; has_macho_entries(alloc, b"_a # b\n\n_b*\n", 2));
 }
 

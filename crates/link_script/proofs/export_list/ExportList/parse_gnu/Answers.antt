@@ -6,7 +6,7 @@ use Rattle.link_script.proofs.Refused.{is_fault, is_refused, gnu_read}
 use Rattle.link_script.proofs.export_list.ExportList.parse_gnu.Goals as goal
 
 pub returns-clause-faulty : goal.returns-clause-faulty
-returns-clause-faulty c = let t = c.args.text.now in is_fault t (gnu_list t) (IsExportList t) (ListFails t) (list_judged t) c.read_gnu.result c.read_gnu.ensures.refused
+returns-clause-faulty c = let p = c.args.profile in let t = c.args.text.now in is_fault t (gnu_list p t) (IsExportList p t) (ListFails p t) (list_judged p t) c.read_gnu.result c.read_gnu.ensures.refused
 
 pub returns-clause-refuses : goal.returns-clause-refuses
-returns-clause-refuses c = let t = c.args.text.now in is_refused t (gnu_list t) (IsExportList t) (ListFails t) (list_judged t) c.read_gnu.result (gnu_read t c.read_gnu.result c.read_gnu.ensures.read) c.read_gnu.ensures.refused
+returns-clause-refuses c = let p = c.args.profile in let t = c.args.text.now in is_refused t (gnu_list p t) (IsExportList p t) (ListFails p t) (list_judged p t) c.read_gnu.result (gnu_read p t c.read_gnu.result c.read_gnu.ensures.read) c.read_gnu.ensures.refused
