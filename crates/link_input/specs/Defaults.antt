@@ -2,6 +2,7 @@
 use Rattle.std.specs.Prelude.{[], false, None}
 use Rattle.link_input.specs.declared.options.Options.{Options}
 use Rattle.link_input.specs.declared.options.OutputKind.TheVariants.{StaticExecutable}
+use Rattle.link_script_syntax.specs.declared.profile.ScriptProfile.TheVariants.{Wild}
 
 -- the options of a link of which the user says nothing
 abbrev pub default_options : Options
@@ -18,4 +19,6 @@ default_options = record {
   linker_symbols = [];
   custom_sections = [];
   demangle = false;
+  script_profile = Wild;
+  soname = None;
 }

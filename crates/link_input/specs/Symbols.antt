@@ -1,6 +1,6 @@
 -- The symbols of the files of a link in one list. A symbol's id is its place in that list.
 use Rattle.std.specs.Prelude.{ℕ, ◌+◌, Bool, true, false, List, [], ◌∷◌, ◌++◌, map, Option, Some, None, nat_lt, slice_get, option_map, if◌then◌else◌}
-use Rattle.std.specs.Option.{option_and_then}
+use Rattle.std.specs.Option.{option_and_then, option_map_or}
 use Rattle.link_ids.specs.Span.{Span, id_at}
 use Rattle.link_flags.specs.declared.strength.SymbolStrength.{SymbolStrength}
 use Rattle.link_flags.specs.declared.strength.SymbolStrength.TheVariants.{Undefined, Weak, Strong}
@@ -66,12 +66,16 @@ is_shared (in_object n shared e) = shared
 is_shared (in_script d) = false
 is_shared (in_stub strength) = true
 
--- a test of the entry of an object's symbol, and an answer for other symbols
-abbrev pub entry_passes : (SymbolEntry → Bool) → Bool → Origin → Bool
-entry_passes p other (in_prelude d) = other
-entry_passes p other (in_object n shared e) = p e
-entry_passes p other (in_script d) = other
-entry_passes p other (in_stub strength) = other
+-- the entry of an object's symbol
+abbrev pub entry_in : Origin → Option SymbolEntry
+entry_in (in_prelude d) = None
+entry_in (in_object n shared e) = Some e
+entry_in (in_script d) = None
+entry_in (in_stub strength) = None
+
+-- it is an object's symbol, whose entry passes the test
+abbrev pub entry_passes : (SymbolEntry → Bool) → Origin → Bool
+entry_passes p origin = option_map_or p (entry_in origin) false
 
 -- how strongly a symbol binds, whether its file is loaded or not; the linker's own symbols yield to all others
 abbrev pub binding_strength : Origin → SymbolStrength

@@ -6,6 +6,7 @@ ghost use Rattle.link_input.specs.Entries.{section_of};
 ghost use Rattle.link_input.specs.Checks.{first_fault};
 
 use crate::checks::first_fault;
+use crate::parts::Part;
 use crate::platform::Platform;
 use crate::symbol_columns::SymbolColumns;
 use crate::symbol_entry::SymbolEntry;
@@ -13,7 +14,7 @@ use crate::symbol_row::SymbolRow;
 use crate::table_error::TableError;
 use link_ids::{SectionIndex, SymbolIndex};
 use link_names::{Name, NameView, Seq};
-use std::alloc::Global;
+use std::alloc::{AllocError, Global};
 use std::marker::{Model, PhantomData};
 
 /// A section group (ELF gABI, "Section Groups"): its header section, the symbol whose name is its signature, and its
@@ -219,5 +220,26 @@ impl<P: Platform> InputObject<P> {
         ensures below { All (λ member. member < self.now.sections) result.now }
     {
         self.group(group).members()
+    }
+}
+
+impl<P: Platform> Part for InputObject<P> {
+    fn try_copy(&self, alloc: Global) -> Result<Self, AllocError> {
+        Ok(InputObject {
+            is_dynamic: self.is_dynamic,
+            lib_name: self.lib_name.try_copy(alloc)?,
+            sections: self.sections,
+            symbols: self.symbols.try_copy(alloc)?,
+            groups: self.groups.try_copy(alloc)?,
+            platform: PhantomData,
+        })
+    }
+
+    fn same(&self, other: &Self) -> bool {
+        self.is_dynamic == other.is_dynamic
+            && self.sections == other.sections
+            && self.lib_name.same(&other.lib_name)
+            && self.groups.same(&other.groups)
+            && self.symbols.same(&other.symbols)
     }
 }

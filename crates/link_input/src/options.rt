@@ -5,6 +5,7 @@ ghost use Rattle.link_input.specs.Defaults.{default_options};
 
 use crate::internal_symbols::InternalSymDefInfo;
 use link_names::{Name, Seq};
+use link_script_syntax::ScriptProfile;
 use std::alloc::Global;
 
 /// What is linked.
@@ -43,6 +44,10 @@ pub struct Options {
     pub custom_sections: Seq<Name>,
     /// Names are shown demangled.
     pub demangle: bool,
+    /// How the version scripts and the GNU export list are read, linker scripts' version texts too.
+    pub script_profile: ScriptProfile,
+    /// The name under which programs find the output where it is a shared object (`-soname`).
+    pub soname: Option<Name>,
 }
 
 // By hand, so that what lets one go makes one call and does not name its parts.
@@ -61,12 +66,14 @@ impl Drop for Options {
             linker_symbols: _,
             custom_sections: _,
             demangle: _,
+            script_profile: _,
+            soname: _,
         } = self;
     }
 }
 
 impl Options {
-    /// The options where the user gives none: a static executable. Takes no memory.
+    /// The options where the user gives none: a static executable, and scripts as Wild reads them. Takes no memory.
     pub fn new(alloc: Global) -> Self
         ensures { result ≡ default_options }
     {
@@ -83,6 +90,8 @@ impl Options {
             linker_symbols: Seq::new(alloc),
             custom_sections: Seq::new(alloc),
             demangle: false,
+            script_profile: ScriptProfile::Wild,
+            soname: None,
         }
     }
 }

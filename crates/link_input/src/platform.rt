@@ -2,6 +2,7 @@
 
 ghost use Rattle.std.specs.Prelude.{◌≡◌, ℕ, Bool, true, false, List, Option, Result, Ok, IfOk, IfErr};
 ghost use Rattle.link_script_syntax.specs.declared.fault.Fault.{Fault};
+ghost use Rattle.link_script_syntax.specs.declared.profile.ScriptProfile.{ScriptProfile};
 ghost use Rattle.link_script_syntax.specs.Fault.{Refuses};
 ghost use Rattle.link_script.specs.ListedNames.{ListedNames, IsListNamed, gnu_names, macho_names};
 ghost use Rattle.link_input.specs.declared.symbol_entry.SymbolEntry.{SymbolEntry};
@@ -12,7 +13,7 @@ use crate::options::OutputKind;
 use crate::symbol_row::SymbolRow;
 use link_flags::Visibility;
 use link_script::ExportList;
-use link_script_syntax::ScriptFault;
+use link_script_syntax::{ScriptFault, ScriptProfile};
 use std::alloc::Global;
 
 /// A platform: its constants, and rules that are functions of their arguments. Mirrors Wild's `Platform`.
@@ -41,17 +42,21 @@ pub trait Platform: Sized + Drop {
     fn non_interposable(symbol: &SymbolRow, output: OutputKind, listed: Option<bool>) -> bool
         ensures { result ≡ is_non_interposable symbol.now output listed };
 
-    /// What the text of an export list says, or its first fault.
-    ghost read_export_list: { List ℕ → Result ListedNames Fault };
+    /// What the text of an export list says in a profile, or its first fault.
+    ghost read_export_list: { ScriptProfile → List ℕ → Result ListedNames Fault };
 
     /// The export list that a text spells, in the form that the platform's linkers read: the names that it exports, and those
-    /// that must be defined.
+    /// that must be defined. The profile counts for GNU lists alone.
     ///
     /// A text that is no such list is refused with its first fault and that fault's place, and `Memory` comes where memory ran
     /// out.
-    fn parse_export_list(alloc: Global, text: &[u8]) -> Result<ExportList, ScriptFault>
-        ensures read { IfOk result (λ list. (names : ListedNames) × (read_export_list text.now ≡ Ok names) × IsListNamed names list) }
-        ensures refused { IfErr result (λ error. Refuses error text.now (read_export_list text.now)) };
+    fn parse_export_list(
+        alloc: Global,
+        text: &[u8],
+        profile: ScriptProfile,
+    ) -> Result<ExportList, ScriptFault>
+        ensures read { IfOk result (λ list. (names : ListedNames) × (read_export_list profile text.now ≡ Ok names) × IsListNamed names list) }
+        ensures refused { IfErr result (λ error. Refuses error text.now (read_export_list profile text.now)) };
 }
 
 /// Platforms whose objects are like ELF's.
@@ -83,8 +88,12 @@ impl Platform for ElfLike {
 
     ghost read_export_list = { gnu_names };
 
-    fn parse_export_list(alloc: Global, text: &[u8]) -> Result<ExportList, ScriptFault> {
-        ExportList::parse_gnu(alloc, text)
+    fn parse_export_list(
+        alloc: Global,
+        text: &[u8],
+        profile: ScriptProfile,
+    ) -> Result<ExportList, ScriptFault> {
+        ExportList::parse_gnu(alloc, text, profile)
     }
 }
 
@@ -107,9 +116,13 @@ impl Platform for MachLike {
         keeps_place(true, symbol, output, listed)
     }
 
-    ghost read_export_list = { macho_names };
+    ghost read_export_list = { λ profile. macho_names };
 
-    fn parse_export_list(alloc: Global, text: &[u8]) -> Result<ExportList, ScriptFault> {
+    fn parse_export_list(
+        alloc: Global,
+        text: &[u8],
+        _profile: ScriptProfile,
+    ) -> Result<ExportList, ScriptFault> {
         ExportList::parse_macho(alloc, text)
     }
 }

@@ -125,6 +125,23 @@ impl SymbolColumns {
         })
     }
 
+    /// A copy. Its only refusal is want of memory.
+    pub fn try_clone(&self, alloc: Global) -> Result<Self, AllocError>
+        ensures { IfOk result (λ copy. copy ≡ self.now) }
+    {
+        Ok(SymbolColumns {
+            block: Vec::from_slice(alloc, self.block.as_slice())?,
+            names: Vec::from_slice(alloc, self.names.as_slice())?,
+            versions: Vec::from_slice(alloc, self.versions.as_slice())?,
+            defaults: Vec::from_slice(alloc, self.defaults.as_slice())?,
+            bindings: Vec::from_slice(alloc, self.bindings.as_slice())?,
+            visibilities: Vec::from_slice(alloc, self.visibilities.as_slice())?,
+            kinds: Vec::from_slice(alloc, self.kinds.as_slice())?,
+            sizes: Vec::from_slice(alloc, self.sizes.as_slice())?,
+            places: Vec::from_slice(alloc, self.places.as_slice())?,
+        })
+    }
+
     /// How many entries there are.
     pub fn len(&self) -> usize
         ensures { result ≡ length self.now }

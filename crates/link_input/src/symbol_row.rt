@@ -1,6 +1,6 @@
 //! An entry of a symbol table, as a table lends it.
 
-ghost use Rattle.std.specs.Prelude.{◌≡◌, ◌<◌, Some, length, slice_get};
+ghost use Rattle.std.specs.Prelude.{◌≡◌, ◌<◌, Some, length, option_map, slice_get};
 ghost use Rattle.link_input.specs.Entries.{is_undefined, is_absolute, is_common, section_of, is_func, is_ifunc, is_tls, is_local, is_weak, is_hidden};
 ghost use Rattle.link_input.specs.BindingStrength.{binding_strength};
 ghost use Rattle.link_input.specs.Checks.{is_null};
@@ -46,6 +46,13 @@ impl<'a> SymbolRow<'a> {
         ensures { result ≡ self.now.name }
     {
         NameView::new(self.columns.name(self.place))
+    }
+
+    /// The bytes of that version, by which names are looked up.
+    pub fn version_bytes(&self) -> Option<&'a [u8]>
+        ensures { option_map (λ v. v.now) result ≡ self.now.version }
+    {
+        self.version().map(|version| version.as_slice())
     }
 
     /// The version that stood behind an `@` of the name.
