@@ -1,5 +1,5 @@
 -- Edges and rows: a number is added to a row, and the edges are those of the rows.
-use Rattle.std.proofs.Common.{◌≡◌, ◌≢◌, ◌↔◌, ℕ, zero, suc, ◌<◌, ◌⊎◌, List, [], ◌∷◌, ◌++◌, length, get_or, Some, Vec, Global, subst, sym, ◌∙◌, refl, ap, inl, inr, arith, Bool}
+use Rattle.std.proofs.Common.{◌≡◌, ◌≢◌, ◌↔◌, ℕ, zero, suc, ◌<◌, ◌⊎◌, List, [], ◌∷◌, ◌++◌, length, get_or, Some, Vec, Global, subst, sym, ◌∙◌, refl, ap, inl, inr, arith, Bool, Result, Ok, Err, IfOk}
 use Rattle.std.specs.List.{All, Contains, slice_get, slice_set}
 use Rattle.std.proofs.lemmas.Bool.{cases_eq}
 use Rattle.std.proofs.lemmas.Option.{slice_get_within, get_or_from_slice_get}
@@ -9,12 +9,14 @@ use Rattle.link_closure.specs.declared.Edge.{Edge}
 use Rattle.link_closure.specs.Graph.{Graph, IsEdge, Leads, AreBelow}
 use Rattle.link_closure.proofs.Turn.{either, some-inj}
 
-set-same : (rows : Graph) (i : ℕ) (row : Vec ℕ Global) → i < length rows → slice_get (slice_set rows i row) i ≡ Some row
+-- what is set at a place stands there
+pub set-same : {X : Type 0} (rows : List X) (i : ℕ) (row : X) → i < length rows → slice_get (slice_set rows i row) i ≡ Some row
 set-same [] i row lt = absurd (omega arith)
 set-same (x ∷ rows) zero row lt = refl
 set-same (x ∷ rows) (suc i) row lt = set-same rows i row (omega arith)
 
-set-other : (rows : Graph) (i j : ℕ) (row : Vec ℕ Global) → j ≢ i → slice_get (slice_set rows i row) j ≡ slice_get rows j
+-- what stands at the other places stays
+pub set-other : {X : Type 0} (rows : List X) (i j : ℕ) (row : X) → j ≢ i → slice_get (slice_set rows i row) j ≡ slice_get rows j
 set-other [] i j row differs = refl
 set-other (x ∷ rows) zero zero row differs = absurd (differs refl)
 set-other (x ∷ rows) zero (suc j) row differs = refl
@@ -79,3 +81,8 @@ least-over-edges Root graph edges n marks same least = record {
   closed = (least.closed.0, λ f g held edge. least.closed.1 f g held ((same f g).1 edge));
   least = λ other closed f held. least.least other (closed.0, λ a b held' leads. closed.1 a b held' ((same a b).0 leads)) f held;
 }
+
+-- what holds of an answer also holds in another way
+pub ok-along : {A E : Type 0} (r : Result A E) (P Q : A → Type 0) → ((x : A) → P x → Q x) → IfOk r P → IfOk r Q
+ok-along (Ok x) P Q along held = along x held
+ok-along (Err e) P Q along held = tt

@@ -1,3 +1,4 @@
 pub mod Closure
 pub mod Graph
+pub mod Levels
 pub mod Workload

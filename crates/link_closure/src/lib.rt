@@ -6,12 +6,14 @@
 //! Some of its public calls are for callers of the library alone, and no crate here makes them: docs/PORT.md lists them.
 #![tactic(auto)]
 
+mod breadth_first;
 mod workload;
 
 ghost use Rattle.std.specs.Prelude.{◌≡◌, ◌↔◌, ◌⊎◌, [], ◌+◌, ◌<◌, ◌≤◌, ℕ, Bool, List, not, length, count_by, Contains, All, IfOk, OnOk, IsTrue};
-ghost use Rattle.link_closure.specs.Closure.{IsLeastClosed};
+ghost use Rattle.link_closure.specs.Closure.{IsLeastClosed, is_marked};
 ghost use Rattle.link_closure.specs.Graph.{IsMarked, IsEdge, AreInRange, Leads, AreBelow};
 
+pub use breadth_first::{levels, levels_of_the_least_closed_set};
 use std::alloc::{AllocError, Global};
 pub use workload::{Item, Mark, Workload};
 
@@ -20,6 +22,13 @@ pub use workload::{Item, Mark, Workload};
 pub struct Edge {
     pub from: usize,
     pub to: usize,
+}
+
+/// The mark of this number; none is set past the end.
+pub fn is_marked(marks: &[bool], number: usize) -> bool
+    ensures { result ≡ is_marked marks.now number }
+{
+    marks.get(number).copied().unwrap_or(false)
 }
 
 /// The least set that holds the roots, and with each number all to which an edge leads from it: a mark for each number,

@@ -1,11 +1,5 @@
-use Rattle.std.proofs.Common.{Result, Ok, Err, IfOk}
-use Rattle.link_closure.proofs.Rows.{least-over-edges}
+use Rattle.link_closure.proofs.Rows.{least-over-edges, ok-along}
 use Rattle.link_closure.proofs.least_closed.Goals as goal
-
--- what holds of an answer also holds in another way
-ok-along : {A E : Type 0} (r : Result A E) (P Q : A → Type 0) → ((x : A) → P x → Q x) → IfOk r P → IfOk r Q
-ok-along (Ok x) P Q along held = along x held
-ok-along (Err e) P Q along held = tt
 
 pub returns : goal.returns
 returns c = ok-along c.closed_over_rows.result _ _
