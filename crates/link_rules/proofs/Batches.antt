@@ -16,7 +16,7 @@ no-cause None l A goes_on = goes_on
 no-cause (Some e) l A same = absurd (cc)
 
 -- the same selection
-ok-same : (a b : Selection) → ◌≡◌ {A = End} (Ok a) (Ok b) → a ≡ b
+pub ok-same : (a b : Selection) → ◌≡◌ {A = End} (Ok a) (Ok b) → a ≡ b
 ok-same a b same = cc
 
 -- what a link arrives at, where a property of stages holds
@@ -25,15 +25,15 @@ pub record Arrives (P : Stage → Type 0) (l : Selection) : Type 0 where
   pub selected : l ≡ selection_of l.stage l.marks
   pub loaded : IsLoaded l.stage l.marks
 
+-- a batch goes on with loaded objects
+pub batch-goes-on : (is_late : Bool) (before : Stage) (b : Batch) (l : Selection) (GoesOn : Selection → Type 0) → LinksBatch is_late before b GoesOn (Ok l)
+    → (marks : List Bool) × IsLoaded (with_batch before b) marks × GoesOn (selection_of (with_batch before b) marks)
+batch-goes-on is_late before b l GoesOn links =
+    let found = no-cause (batch_refusal is_late before b) l _ links in
+    (found.0, found.1, no-cause (group_refusal (selection_of (with_batch before b) found.0)) l _ found.2)
+
 module _ (P : Stage → Type 0) (grows : (w : Stage) (b : Batch) → P w → P (with_batch w b))
     (stays : (w : Stage) (marks : List Bool) → P w → IsLoaded w marks → P (ended (selection_of w marks))) where
-  -- a batch goes on with loaded objects
-  batch-goes-on : (is_late : Bool) (before : Stage) (b : Batch) (l : Selection) (GoesOn : Selection → Type 0) → LinksBatch is_late before b GoesOn (Ok l)
-      → (marks : List Bool) × IsLoaded (with_batch before b) marks × GoesOn (selection_of (with_batch before b) marks)
-  batch-goes-on is_late before b l GoesOn links =
-      let found = no-cause (batch_refusal is_late before b) l _ links in
-      (found.0, found.1, no-cause (group_refusal (selection_of (with_batch before b) found.0)) l _ found.2)
-
   -- what holds at the start, and goes on to hold, holds at the end
   pub arrives : (is_late : Bool) (before : Stage) (b : Batch) (later : List Batch) (l : Selection) → P before → EndsWith is_late before b later (Ok l) → Arrives P l
   arrives is_late before b [] l held links =

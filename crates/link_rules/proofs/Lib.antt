@@ -19,3 +19,5 @@ pub mod NullEntries
 pub mod Files
 pub mod Rounds
 pub mod Existence
+pub mod Explaining
+pub mod AllRoots

@@ -45,9 +45,9 @@ module _ (P : Stage → Type 0) (grows : (w : Stage) (b : Batch) → P w → P (
 
 -- only objects' symbols are references
 pub reference_object : (u : Symbol) → is_reference u ≡ true → (f : ℕ) × (object_in u.origin ≡ Some f)
-reference_object u is = by_source u.origin (both_true (entry_passes (λ e. is_undefined e.place && not (is_local e.binding)) false u.origin) _ is).0
+reference_object u is = by_source u.origin (both_true (entry_passes (λ e. is_undefined e.place && not (is_local e.binding)) u.origin) _ is).0
   where
-    by_source : (source : Origin) → entry_passes (λ e. is_undefined e.place && not (is_local e.binding)) false source ≡ true → (f : ℕ) × (object_in source ≡ Some f)
+    by_source : (source : Origin) → entry_passes (λ e. is_undefined e.place && not (is_local e.binding)) source ≡ true → (f : ℕ) × (object_in source ≡ Some f)
     by_source (in_prelude d) same = cc
     by_source (in_object f shared e) same = (f, refl)
     by_source (in_script d) same = cc
@@ -108,13 +108,13 @@ between_at u o =
 
 -- the same, if it is a reference that is not weak
 abbrev pub asked : Symbol → Option Symbol → Option ℕ
-asked u o = if is_reference u && not (entry_passes (λ e. is_weak e.binding) false u.origin) then between_at u o else None
+asked u o = if is_reference u && not (entry_passes (λ e. is_weak e.binding) u.origin) then between_at u o else None
 
 -- what a reference asks for is told by what it stands for
 pub request_is : (w : Stage) (s : ℕ) (u : Symbol) (t : ℕ) (y : Symbol) → kept_target w s u ≡ Some t → slice_get w.symbols t ≡ Some y
     → request_of w s u ≡ asked u (Some y)
 request_is w s u t y kept at =
-    ap (λ o. cond (is_reference u && not (entry_passes (λ e. is_weak e.binding) false u.origin)) (option_and_then (request_between w u) o) None) kept
+    ap (λ o. cond (is_reference u && not (entry_passes (λ e. is_weak e.binding) u.origin)) (option_and_then (request_between w u) o) None) kept
     ∙ ap (asked u) at
 
 -- ---- what is done

@@ -50,7 +50,7 @@ one-end is_late before b (c ∷ cs) x y =
     one-batch is_late before b x y (λ l. EndsWith true (ended l) c cs x) (λ l. EndsWith true (ended l) c cs y) (λ l. one-end true (ended l) c cs x y)
 
 -- the batches of a world lead to one end
-one-world : (w : World) (x y : End) → BatchesEnd w x → BatchesEnd w y → x ≡ y
+pub one-world : (w : World) (x y : End) → BatchesEnd w x → BatchesEnd w y → x ≡ y
 one-world w x y first second = one-end false (start_of w) w.first w.later x y first second
 
 -- ---- one answer
@@ -68,7 +68,7 @@ ok-err : (l : Selection) (e : LinkError) → ◌≡◌ {A = End} (Ok l) (Err e) 
 ok-err l e same = cc
 
 -- what is selected last is the same
-one-last : (w : World) (a b : Selection) → BatchesEnd w (Ok a) → BatchesEnd w (Ok b) → a ≡ b
+pub one-last : (w : World) (a b : Selection) → BatchesEnd w (Ok a) → BatchesEnd w (Ok b) → a ≡ b
 one-last w a b first second = ok-same a b (one-world w (Ok a) (Ok b) first second)
 
 -- one answer

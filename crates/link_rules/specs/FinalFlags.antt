@@ -28,7 +28,7 @@ is_partial Partial = true
 
 -- whether an undefined name is left to the dynamic loader: in a shared object each may be, in a dynamic executable a weak one
 abbrev pub is_loader_bound : Stage → Symbol → Bool
-is_loader_bound w x = entry_passes (λ e. is_default_visibility e.visibility) false x.origin
+is_loader_bound w x = entry_passes (λ e. is_default_visibility e.visibility) x.origin
     && (is_shared_object w.options.output || (is_weak_symbol x && is_dynamic_executable w.options.output))
 
 -- what an undefined reference has for itself; one that stands for its plain name says how that is bound

@@ -24,3 +24,7 @@ pub mod Building
 pub mod Examples
 pub mod Work
 pub mod Orderly
+pub mod Reasons
+pub mod Choices
+pub mod FoundRoots
+pub mod Explained

@@ -85,7 +85,7 @@ request_between w u t =
 -- "Symbol Table", `STB_WEAK`)
 abbrev pub request_of : Stage → ℕ → Symbol → Option ℕ
 request_of w s u =
-    if is_reference u && not (entry_passes (λ e. is_weak e.binding) false u.origin)
+    if is_reference u && not (entry_passes (λ e. is_weak e.binding) u.origin)
     then option_and_then (request_between w u) (kept_target w s u) else None
 
 -- some reference of f asks for g, wherever both stand: archives are searched whatever their order, as lld and mold do, and GNU ld from left to right

@@ -17,7 +17,7 @@ use Rattle.link_script.specs.Lookup.{Asked, name_of, text_of}
 use Rattle.link_script.specs.Rank.{Place, strength, side_order, exact_order}
 use Rattle.link_script.specs.Script.{versions_in, of_rust_form}
 use Rattle.link_script_syntax.specs.Named.{raw_names}
-use Rattle.link_script.specs.VersionOf.{Undeclared, matched, is_local_match, declared_as}
+use Rattle.link_script.specs.VersionOf.{Undeclared, matched, is_local_match, declared_as, ver_ndx_global}
 use Rattle.link_rules.specs.Places.{Bytes, places_from, last_of}
 
 -- whether a pattern fits the name, or what it demangles to where it is one of C++
@@ -86,7 +86,7 @@ is_local_by script a = is_local_match (rank (versions_in script) a)
 
 -- an explicit version is the last of its name, the empty one the global version
 abbrev pub explicit_version : List Bytes → Bytes → Bytes → Result (Option ℕ) Undeclared
-explicit_version names asked_name [] = Ok (Some 1)
+explicit_version names asked_name [] = Ok (Some ver_ndx_global)
 explicit_version names asked_name (c ∷ version) = declared_as (record { name = asked_name; version = c ∷ version })
     (last_of (places_from (λ n. bytes_eq n (c ∷ version)) 0 names))
 

@@ -8,6 +8,7 @@ use Rattle.link_input.specs.ObjectFile.{ObjectFile}
 use Rattle.link_input.specs.InputFiles.{Batch}
 use Rattle.link_input.specs.Limits.{Counts, Excess, first_excess, section_total, with_boundaries}
 use Rattle.link_script_syntax.specs.declared.fault.ScriptError.{ScriptError}
+use Rattle.link_script_syntax.specs.declared.profile.ScriptProfile.{ScriptProfile}
 use Rattle.link_script_syntax.specs.ForcedName.{forced_name}
 use Rattle.link_script_syntax.specs.Script.{script_at}
 use Rattle.link_rules.specs.declared.refusal.ScriptOrigin.{ScriptOrigin}
@@ -34,21 +35,21 @@ abbrev pub script_cause : ScriptOrigin → Option ScriptError → Option LinkErr
 script_cause origin fault = option_map (λ error. Script origin error) fault
 
 -- why a text is no version script
-abbrev pub version_script_fault : Bytes → Option ScriptError
-version_script_fault text = fault_in text (script_at text)
+abbrev pub version_script_fault : ScriptProfile → Bytes → Option ScriptError
+version_script_fault profile text = fault_in text (script_at profile text)
 
 -- of the version text of a linker script, which counts only where none was taken before, and in the first batch
-abbrev pub version_text_cause : Bool → Bool → ℕ → Bytes → Option LinkError
-version_text_cause is_late is_taken i text =
+abbrev pub version_text_cause : ScriptProfile → Bool → Bool → ℕ → Bytes → Option LinkError
+version_text_cause profile is_late is_taken i text =
     if is_taken then Some (MultipleVersionScripts i)
-    else (if is_late then Some (LateVersionScript i) else script_cause (LinkerScript i) (version_script_fault text))
+    else (if is_late then Some (LateVersionScript i) else script_cause (LinkerScript i) (version_script_fault profile text))
 
 -- of the linker scripts of a batch, of which the first has this place among all
-abbrev pub linker_script_cause : Bool → Bool → ℕ → List ProcessedLinkerScript → Option LinkError
-linker_script_cause is_late is_taken i [] = None
-linker_script_cause is_late is_taken i (s ∷ ss) = option_or
-    (option_and_then (version_text_cause is_late is_taken i) s.version)
-    (linker_script_cause is_late (is_taken || is_some s.version) (i + 1) ss)
+abbrev pub linker_script_cause : ScriptProfile → Bool → Bool → ℕ → List ProcessedLinkerScript → Option LinkError
+linker_script_cause profile is_late is_taken i [] = None
+linker_script_cause profile is_late is_taken i (s ∷ ss) = option_or
+    (option_and_then (version_text_cause profile is_late is_taken i) s.version)
+    (linker_script_cause profile is_late (is_taken || is_some s.version) (i + 1) ss)
 
 -- a forced export name that can't be read is a cause
 abbrev pub forced_export_cause : ℕ × Bytes → Option LinkError
@@ -57,7 +58,7 @@ forced_export_cause name = script_cause (ForcedExport name.0) (fault_in name.1 (
 -- a text of the options that is no script
 abbrev pub text_refusal : World → Option LinkError
 text_refusal w = first_cause
-    (script_cause VersionScript (option_and_then version_script_fault w.texts.version_script)
+    (script_cause VersionScript (option_and_then (version_script_fault w.options.script_profile) w.texts.version_script)
     ∷ script_cause ExportList (option_and_then w.rules.export_list_fault w.texts.export_list)
     ∷ first_of (filter_map forced_export_cause (enumerate_from 0 w.options.force_export)) ∷ [])
 
@@ -135,7 +136,7 @@ unless_none (x ∷ xs) = Some (DuplicateSymbols (x ∷ xs))
 -- told of earlier symbols without it
 abbrev pub batch_refusal : Bool → Stage → Batch → Option LinkError
 batch_refusal is_late before b = first_cause
-    (linker_script_cause is_late (is_some (taken_text before.texts before.scripts)) (length before.scripts) b.scripts
+    (linker_script_cause before.options.script_profile is_late (is_some (taken_text before.texts before.scripts)) (length before.scripts) b.scripts
     ∷ limit_refusal (with_batch before b) ∷ empty_refusal (with_batch before b) ∷ [])
 
 -- the first cause that shows once the objects of all batches are loaded

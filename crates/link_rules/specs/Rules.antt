@@ -11,6 +11,7 @@ use Rattle.link_input.specs.Interposition.{keeps_place}
 use Rattle.link_script_syntax.specs.declared.fault.Fault.{Fault}
 use Rattle.link_script_syntax.specs.declared.fault.ScriptError.{ScriptError}
 use Rattle.link_script_syntax.specs.declared.matcher.ParsedSymbolMatcher.{ParsedSymbolMatcher}
+use Rattle.link_script_syntax.specs.declared.profile.ScriptProfile.{ScriptProfile}
 use Rattle.link_script_syntax.specs.declared.script.RawScript.{RawScript}
 use Rattle.link_script_syntax.specs.declared.script.RawScript.TheVariants.{Anonymous, Named}
 use Rattle.link_script_syntax.specs.ForcedName.{forced_name}
@@ -27,7 +28,7 @@ use Rattle.link_rules.specs.Matching.{entry_fits, is_local_by, version_by}
 pub record PlatformRules : Type 0 where
   pub weak_overrides_common : Bool
   pub is_non_interposable : SymbolEntry → OutputKind → Option Bool → Bool
-  pub read_export_list : Bytes → Result ListedNames Fault
+  pub read_export_list : ScriptProfile → Bytes → Result ListedNames Fault
 
 -- platforms whose objects are like ELF's
 abbrev pub elf_like : PlatformRules
@@ -35,7 +36,7 @@ elf_like = record { weak_overrides_common = false; is_non_interposable = keeps_p
 
 -- platforms whose objects are like Mach-O's
 abbrev pub mach_like : PlatformRules
-mach_like = record { weak_overrides_common = true; is_non_interposable = keeps_place true; read_export_list = macho_names }
+mach_like = record { weak_overrides_common = true; is_non_interposable = keeps_place true; read_export_list = λ profile. macho_names }
 
 -- the rules of one link
 pub record Rules : Type 0 where
@@ -72,9 +73,9 @@ abbrev pub taken_text : Scripts → List ProcessedLinkerScript → Option Bytes
 taken_text texts scripts = option_or texts.version_script (first_of (filter_map (λ s. s.version) scripts))
 
 -- no script is the one without versions
-abbrev pub script_of : Option Bytes → RawScript
-script_of None = Named []
-script_of (Some text) = read_or (Named []) (script_at text)
+abbrev pub script_of : ScriptProfile → Option Bytes → RawScript
+script_of profile None = Named []
+script_of profile (Some text) = read_or (Named []) (script_at profile text)
 
 -- the global entries of the body that has no name
 abbrev pub unnamed_globals : RawScript → List ParsedSymbolMatcher
@@ -86,18 +87,18 @@ abbrev pub rust_names_of : RawScript → Option (List Bytes)
 rust_names_of script = if of_rust_form script then Some (listed_names (unnamed_globals script)) else None
 
 -- the export list of a text, where one is given
-abbrev pub list_of : PlatformRules → Option Bytes → ListedNames
-list_of platform None = no_names
-list_of platform (Some text) = read_or no_names (platform.read_export_list text)
+abbrev pub list_of : PlatformRules → ScriptProfile → Option Bytes → ListedNames
+list_of platform profile None = no_names
+list_of platform profile (Some text) = read_or no_names (platform.read_export_list profile text)
 
 -- whether a name is exported, where there is a list or a forced name
 abbrev pub exported_by : (Bytes → Bytes) → Option Bytes → List Bytes → List ParsedSymbolMatcher → Option (Bytes → Bool)
 exported_by demangle None [] entries = None
 exported_by demangle list forced entries = Some (λ n. list_any (entry_fits (asked demangle n)) entries)
 
--- the rules of a platform and a demangler, over a version script and an export list that are read
-abbrev pub rules_over : PlatformRules → (Bytes → Bytes) → RawScript → ListedNames → Option (Bytes → Bool) → Rules
-rules_over platform demangle script list exported = record {
+-- the rules of a platform and a demangler, over a version script and an export list that are read in a profile
+abbrev pub rules_over : PlatformRules → ScriptProfile → (Bytes → Bytes) → RawScript → ListedNames → Option (Bytes → Bool) → Rules
+rules_over platform profile demangle script list exported = record {
   weak_overrides_common = platform.weak_overrides_common;
   is_non_interposable = platform.is_non_interposable;
   is_exported = exported;
@@ -105,7 +106,7 @@ rules_over platform demangle script list exported = record {
   rust_names = rust_names_of script;
   is_local_name = λ n. is_local_by script (asked demangle n);
   version_of = λ n explicit. version_by script (asked demangle n) explicit;
-  export_list_fault = λ text. fault_in text (platform.read_export_list text);
+  export_list_fault = λ text. fault_in text (platform.read_export_list profile text);
 }
 
 -- an export list with the forced export names
@@ -115,6 +116,7 @@ exported_with demangle text forced list =
 
 -- the rules by the texts of a link
 abbrev pub rules_of : PlatformRules → (Bytes → Bytes) → Options → Scripts → List ProcessedLinkerScript → Rules
-rules_of platform demangle options texts scripts = rules_over platform demangle (script_of (taken_text texts scripts))
-    (list_of platform texts.export_list)
-    (exported_with demangle texts.export_list options.force_export (list_of platform texts.export_list))
+rules_of platform demangle options texts scripts = rules_over platform options.script_profile demangle
+    (script_of options.script_profile (taken_text texts scripts))
+    (list_of platform options.script_profile texts.export_list)
+    (exported_with demangle texts.export_list options.force_export (list_of platform options.script_profile texts.export_list))

@@ -5,7 +5,7 @@ use Rattle.link_flags.specs.declared.strength.SymbolStrength.{SymbolStrength}
 use Rattle.link_flags.specs.declared.strength.SymbolStrength.TheVariants.{Undefined}
 use Rattle.link_flags.specs.Pick.{Candidate, pick}
 use Rattle.link_input.specs.Interposition.{is_default_visibility}
-use Rattle.link_input.specs.Symbols.{Symbol, binding_strength, entry_passes}
+use Rattle.link_input.specs.Symbols.{Symbol, binding_strength, entry_in}
 use Rattle.link_rules.specs.Places.{Bytes}
 use Rattle.link_rules.specs.World.{Stage, is_shared_at}
 use Rattle.link_rules.specs.Names.{Mapping, first_definition, first_versioned_definition, later_definitions}
@@ -54,7 +54,7 @@ name_table w = record {
 
 -- other files may see the reference
 abbrev pub is_open : Symbol → Bool
-is_open u = entry_passes (λ e. is_default_visibility e.visibility) true u.origin
+is_open u = option_map_or (λ e. is_default_visibility e.visibility) (entry_in u.origin) true
 
 -- the symbol that a reference stands for by the names of all batches up to this one
 abbrev pub target : Stage → Symbol → Option ℕ

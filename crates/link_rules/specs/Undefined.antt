@@ -17,7 +17,7 @@ Numbered = ℕ × Symbol
 
 -- a weak symbol of an object
 abbrev pub is_weak_symbol : Symbol → Bool
-is_weak_symbol x = entry_passes (λ e. is_weak e.binding) false x.origin
+is_weak_symbol x = entry_passes (λ e. is_weak e.binding) x.origin
 
 -- nothing that is loaded stands for it; a strong reference to another file has that loaded
 abbrev pub is_target_missing : Selection → Symbol → Option ℕ → Bool

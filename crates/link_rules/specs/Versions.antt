@@ -17,7 +17,7 @@ use Rattle.link_rules.specs.Undefined.{Numbered, Resolution}
 abbrev pub asks_version : Resolution → Numbered → Bool
 asks_version r s = is_shared_object r.selection.stage.options.output && is_none r.selection.stage.rules.rust_names
     && is_in_loaded_regular r.selection.marks s.1.origin && is_definition s.1
-    && not (entry_passes (λ e. is_local e.binding) false s.1.origin) && two_steps r.table s.0 == s.0
+    && not (entry_passes (λ e. is_local e.binding) s.1.origin) && two_steps r.table s.0 == s.0
 
 -- what the version script answers, where it is asked
 abbrev pub version_given : Resolution → Numbered → Result (Option ℕ) Undeclared

@@ -100,15 +100,15 @@ is_shared_at w s = holds_at w (λ x. is_shared x.origin) s
 
 -- a hidden symbol of a shared object neither defines a name nor refers to one
 abbrev pub is_concealed : Origin → Bool
-is_concealed origin = is_shared origin && entry_passes (λ e. is_hidden e.visibility) false origin
+is_concealed origin = is_shared origin && entry_passes (λ e. is_hidden e.visibility) origin
 
 -- it stands for a place of its own; all symbols that no object gives are definitions
 abbrev pub is_definition : Symbol → Bool
-is_definition x = not (entry_passes (λ e. is_undefined e.place) false x.origin) && not (is_concealed x.origin)
+is_definition x = not (entry_passes (λ e. is_undefined e.place) x.origin) && not (is_concealed x.origin)
 
 -- among undefined entries only the null entry is local (ELF gABI, "Symbol Table", index 0)
 abbrev pub is_reference : Symbol → Bool
-is_reference x = entry_passes (λ e. is_undefined e.place && not (is_local e.binding)) false x.origin && not (is_concealed x.origin)
+is_reference x = entry_passes (λ e. is_undefined e.place && not (is_local e.binding)) x.origin && not (is_concealed x.origin)
 
 -- the id of the first symbol of the object at this place
 abbrev pub first_symbol_of : Stage → ℕ → ℕ

@@ -5,6 +5,7 @@ ghost use Rattle.std.specs.List.{list_any};
 ghost use Rattle.link_input.specs.declared.symbol_entry.SymbolEntry.{SymbolEntry};
 ghost use Rattle.link_input.specs.Checks.{first_fault};
 ghost use Rattle.link_input.specs.Entries.{is_undefined};
+ghost use Rattle.link_input.specs.InputFiles.{Batch};
 ghost use Rattle.link_input.specs.ObjectFile.{ObjectFile};
 ghost use Rattle.link_script_syntax.specs.declared.body.Side.{Side};
 ghost use Rattle.link_script.specs.declared.export_list.ExportList.{ExportList};
@@ -28,7 +29,7 @@ ghost use Rattle.link_rules.specs.Loading.{IsLoaded};
 ghost use Rattle.link_rules.specs.Selection.{Selection};
 ghost use Rattle.link_rules.specs.Sorting.{IsSortedTexts, sorted_texts};
 ghost use Rattle.link_rules.specs.Undefined.{definition};
-ghost use Rattle.link_rules.specs.Answer.{BatchesEnd, IsLinked, IsRefused, IsRefusalText, IsReport};
+ghost use Rattle.link_rules.specs.Answer.{BatchesEnd, End, EndsWith, IsLinked, IsRefused, IsRefusalText, IsReport};
 
 use link_input::{ElfLike, MachLike, Platform};
 
@@ -42,6 +43,12 @@ pub fn a_world_has_one_answer()
     ensures refusal_text { (w : World) (a b : Bytes) → IsRefusalText w a → IsRefusalText w b → a ≡ b }
     ensures not_both { (w : World) (linked : Linked) (error : LinkError) → IsLinked w linked → IsRefused w error → ⊥ }
     ensures some { (w : World) → ((linked : Linked) × IsLinked w linked) ⊎ ((error : LinkError) × IsRefused w error) }
+{}
+
+/// Batches behind a stage lead to one end: the same selection, or the same cause. So the batches of a world select once.
+pub fn batches_have_one_end()
+    ensures ends { (is_late : Bool) (before : Stage) (b : Batch) (later : List Batch) (x y : End) → EndsWith is_late before b later x → EndsWith is_late before b later y → x ≡ y }
+    ensures selects { (w : World) (a b : Selection) → BatchesEnd w (Ok a) → BatchesEnd w (Ok b) → a ≡ b }
 {}
 
 /// How many objects are read as one group changes no answer.
