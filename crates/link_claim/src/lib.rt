@@ -17,7 +17,7 @@ mod words;
 
 pub use closed::Closed;
 pub use flags::{AtomicFlagsRange, AtomicPerSymbolFlags, AtomicValueFlags};
-pub use gate::{Gate, OpenGate};
+pub use gate::{Gate, OpenGate, Passage};
 pub use law::{
     a_bit_is_new_once, any_interleaving, each_step_is_of_its_seat, flags_only_grow,
     no_schedule_changes_the_end, no_store_will_do,

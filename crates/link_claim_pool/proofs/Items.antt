@@ -1,5 +1,6 @@
 -- Requests and marks of an item, by their index.
-use Rattle.std.proofs.Common.{◌≡◌, ℕ, zero, suc, ◌<◌, List, [], ◌∷◌, Contains, None, Some, sym, refl, ap, ◌∙◌, subst, arith, length, get_or, inl, inr}
+use Rattle.std.proofs.Common.{◌≡◌, ◌+◌, ◌++◌, ℕ, zero, suc, ◌<◌, List, [], ◌∷◌, Contains, None, Some, sym, refl, ap, ◌∙◌, subst, arith, length, get_or, inl, inr, reverse, take}
+use Rattle.std.proofs.lemmas.List.{reverse-append, take_all}
 use Rattle.std.specs.Prelude.{slice_get}
 use Rattle.link_closure.specs.declared.workload.Mark.{Mark}
 use Rattle.link_closure.specs.declared.workload.Item.{Item}
@@ -9,6 +10,7 @@ use Rattle.link_closure.specs.Workload.{HasItem, Requests, Marks, IsSound}
 use Rattle.link_claim.specs.Views.{MayRequest, MayMark, MayBegin}
 use Rattle.link_claim.specs.Later.{IsLater, HasRead}
 use Rattle.link_closure.proofs.Joins.{contains_later}
+use Rattle.link_claim_pool.specs.Found.{AreAsked}
 
 module _ {X : Type 0} where
   -- something stands at each index below the length
@@ -32,6 +34,23 @@ module _ {X : Type 0} where
   -- what is in the list stands at some index
   pub contains_get : (xs : List X) (x : X) → Contains xs x → (k : ℕ) × (k < length xs) × (slice_get xs k ≡ Some x)
   contains_get xs x has = (has.0, has.1, contains_at xs has.0 x has.1 has.2)
+
+-- a list up to an index is that up to the one before, with what stands there behind it
+pub take_at : (xs : List ℕ) (k x : ℕ) → slice_get xs k ≡ Some x → take (suc k) xs ≡ take k xs ++ x ∷ []
+take_at [] k x is = absurd (cc)
+take_at (y ∷ ys) zero x is = ap (λ z. z ∷ []) (let same : y ≡ x = cc in same)
+take_at (y ∷ ys) (suc k) x is = ap (λ zs. y ∷ zs) (take_at ys k x is)
+
+-- what was requested up to an index, and then what stands there
+pub asked_more : (xs : List ℕ) (k x : ℕ) (v u z : View) → slice_get xs k ≡ Some x → AreAsked (take k xs) v u → AreAsked (x ∷ []) u z → AreAsked (take (k + 1) xs) v z
+asked_more xs k x v u z is before next =
+    let one : k + 1 ≡ suc k = omega arith in
+    let last = ap (λ n. take n xs) one ∙ take_at xs k x is in
+    next ∙ (ap (λ fs. x ∷ fs) before ∙ ap (λ (fs : List ℕ). fs ++ v.known) (sym (ap reverse last ∙ reverse-append (take k xs) (x ∷ []))))
+
+-- and once all was
+pub asked_all : (xs : List ℕ) (k : ℕ) (v u : View) → k ≡ length xs → AreAsked (take k xs) v u → AreAsked xs v u
+asked_all xs k v u is asked = subst (λ fs. AreAsked fs v u) (take_all k xs (omega (arith, is))) asked
 
 module _ (w : Workload) (v : View) (i k : ℕ) (same : v.work ≡ w) (begun : Contains v.known_items i) (lt : i < length w.items) where
   -- a request at an index may be made

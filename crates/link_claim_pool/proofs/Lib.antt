@@ -1,3 +1,4 @@
 pub mod Items
 pub mod Findings
 pub mod Begins
+pub mod Sweeping

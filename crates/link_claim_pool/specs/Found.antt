@@ -19,6 +19,10 @@ IsFound found v i x = ((it : Item) × HasItem v.work i it × Contains v.known it
 abbrev pub AreClaimed : List ℕ → View → View → Type 0
 AreClaimed files v later = later.claims ≡ reverse files ++ v.claims
 
+-- the seat requested these files since, each once, in this order, and came to know no other: its list has the latest first
+abbrev pub AreAsked : List ℕ → View → View → Type 0
+AreAsked files v later = later.known ≡ reverse files ++ v.known
+
 -- each result that is there was found so
 abbrev pub AreFound : {T : Type 0} → (ℕ → T → Type 0) → View → List (Option T) → Type 0
 AreFound found v results = (i : ℕ) (x : _) → slice_get results i ≡ Some (Some x) → IsFound found v i x

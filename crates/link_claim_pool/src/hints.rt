@@ -1,5 +1,7 @@
 //! Hints of items that may be ready, which threads take from one another. Nothing rests on what they say.
 
+ghost use Rattle.std.specs.Prelude.{◌≡◌, IfOk, vec_len};
+
 use crate::readable::Readable;
 use arrayvec::ArrayVec;
 use crossbeam_deque::{Steal, Stealer, Worker};
@@ -118,38 +120,32 @@ impl Hints {
     }
 }
 
-/// A deque for each worker, with the stealers of all the others.
-fn hints_of(alloc: Global, count: usize) -> Result<Vec<Hints>, AllocError> {
-    let mut workers: Vec<Worker<List>> = Vec::new(alloc);
-    for _ in 0..count {
-        workers.push(Worker::new_fifo(alloc, FIRST_ROOM)?)?;
-    }
-    let mut others = Vec::new(alloc);
-    for own in 0..count {
-        others.push(others_of(alloc, workers.as_slice(), own)?)?;
-    }
+/// For each worker a deque, with the stealers of all the others, and no hints.
+fn hints_of(alloc: Global, count: usize) -> Result<Vec<Hints>, AllocError>
+    ensures { IfOk result (λ v. vec_len v ≡ count) }
+{
     let mut all = Vec::new(alloc);
-    for (local, others) in workers.into_iter().zip(others) {
+    for _ in 0..count {
         all.push(Hints {
-            local,
-            others,
+            local: Worker::new_fifo(alloc, FIRST_ROOM)?,
+            others: Vec::new(alloc),
             taken: List::new(),
             given: List::new(),
         })?;
+    }
+    for own in 0..count {
+        let others = others_of(alloc, all.as_slice(), own)?;
+        all[own].others = others;
     }
     Ok(all)
 }
 
 /// The stealers of all workers but one.
-fn others_of(
-    alloc: Global,
-    workers: &[Worker<List>],
-    own: usize,
-) -> Result<Vec<Stealer<List>>, AllocError> {
+fn others_of(alloc: Global, all: &[Hints], own: usize) -> Result<Vec<Stealer<List>>, AllocError> {
     let mut others = Vec::new(alloc);
-    for (i, worker) in workers.iter().enumerate() {
+    for (i, hints) in all.iter().enumerate() {
         if i != own {
-            others.push(worker.stealer()?)?;
+            others.push(hints.local.stealer()?)?;
         }
     }
     Ok(others)
@@ -163,16 +159,19 @@ pub(crate) struct Dealer {
 }
 
 impl Dealer {
-    /// With no hints for each worker.
-    /// What it holds is left open: nothing rests on hints.
-    pub(crate) fn new(alloc: Global, workers: usize) -> Result<Dealer, AllocError> {
+    /// With no hints for each of so many workers.
+    pub(crate) fn new(alloc: Global, workers: usize) -> Result<Dealer, AllocError>
+        ensures { IfOk result (λ d. vec_len d.all ≡ workers) }
+    {
         let all = hints_of(alloc, workers)?;
         Ok(Dealer { all, next: 0 })
     }
 
     /// The hints of each worker.
-    /// Which they are, and for how many workers, is left open: the sweep reads what no worker did.
-    pub(crate) fn into_hints(self) -> Vec<Hints> {
+    /// Which they are is left open: the sweep reads what no worker did.
+    pub(crate) fn into_hints(self) -> Vec<Hints>
+        ensures { vec_len result ≡ vec_len self.all }
+    {
         let Dealer { mut all, .. } = self;
         for hints in all.iter_mut() {
             hints.share_given();
@@ -182,7 +181,9 @@ impl Dealer {
 
     /// Deals out a hint for each item of the file, which was claimed.
     /// Who gets which hint is left open: the sweep reads what no hint told.
-    pub(crate) fn deal_items<P: Readable>(&mut self, plan: &P, file: usize) {
+    pub(crate) fn deal_items<P: Readable>(&mut self, plan: &P, file: usize)
+        ensures { vec_len self.new.all ≡ vec_len self.old.all }
+    {
         let (first, count) = plan.items_of(file);
         for k in 0..count.min(plan.items()) {
             self.deal(first.wrapping_add(k));
@@ -190,7 +191,9 @@ impl Dealer {
     }
 
     // Gives the hint to the next worker.
-    fn deal(&mut self, item: usize) {
+    fn deal(&mut self, item: usize)
+        ensures { vec_len self.new.all ≡ vec_len self.old.all }
+    {
         if self.next >= self.all.len() {
             self.next = 0;
         }

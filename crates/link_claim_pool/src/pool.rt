@@ -1,10 +1,10 @@
 //! Many threads read, and one brings together what they found.
-ghost use Rattle.std.specs.Prelude.{◌≡◌, ℕ, ◌<◌, ◌≤◌, None, Some, List, length, option_map, slice_get, slice_set, All, Contains, IfOk, OnOk};
+ghost use Rattle.std.specs.Prelude.{◌≡◌, ℕ, ◌<◌, ◌≤◌, ◌==◌, if◌then◌else◌, None, Some, List, length, option_map, slice_get, slice_set, All, Contains, IfOk, IsOkAnd, OnOk, vec_len};
 ghost use Rattle.link_closure.specs.declared.workload.Mark.{Mark};
 ghost use Rattle.link_claim.specs.Later.{IsLater, HasReadAll};
 ghost use Rattle.link_claim.specs.Seats.{IsSettled};
-ghost use Rattle.link_claim_pool.specs.Found.{AreFound, AreNotDue, AreWritten};
-ghost use Rattle.link_claim_pool.specs.Jobs.{IsReady, IsBack};
+ghost use Rattle.link_claim_pool.specs.Found.{AreFound, AreNotDue, AreWritten, HasResult};
+ghost use Rattle.link_claim_pool.specs.Jobs.{IsReady, IsBack, IsTakenIn};
 ghost use Rattle.link_claim_pool.specs.Results.{AreResultsOf};
 
 use crate::hints::{Dealer, Hints};
@@ -20,10 +20,11 @@ use std::thread::Threads;
 /// How many threads the caller's own thread starts at most. Each of them starts others where there are more workers.
 const MOST_STARTS: usize = 7;
 
-/// How many threads so many workers start. One worker alone is the caller's own thread: it sweeps over all items, in their order, with no
-/// hint and no list of findings.
-/// The number is left open: for each number of threads the answer is the same.
-fn threads_for(workers: usize) -> usize {
+/// How many workers get hints. One worker alone is the caller's own thread: it sweeps over all items, in their order, with no hint and no list
+/// of findings.
+fn hinted(workers: usize) -> usize
+    ensures { result ≡ (if workers == 1 then 0 else workers) }
+{
     if workers == 1 { 0 } else { workers }
 }
 
@@ -39,6 +40,7 @@ fn jobs_of<P: Readable>(
     requires work { seat.old.view.work ≡ P.work plan.now }
     ensures same { seat.new ≡ seat.old }
     ensures ready { IfOk result (λ v. All (IsReady (P.work plan.now) words.now) v.items) }
+    ensures count { IfOk result (λ v. vec_len v ≡ vec_len all) }
 {
     let mut jobs = Vec::new(alloc);
     let share = plan.items() / all.len().max(1);
@@ -62,7 +64,8 @@ fn run_halved<R: Threads + Sync, P: Readable + Sync, G: Gate + Sync>(
     jobs: Vec<Job>,
 ) -> Result<Vec<Result<Back<P::Found>, AllocError>>, AllocError>
     requires { All (IsReady (P.work plan.now) words.now) jobs.items }
-    ensures { IfOk result (λ v. All (λ r. IfOk r (IsBack (P.work plan.now) (P.found_in plan.now) words.now)) v.items) }
+    ensures back { IfOk result (λ v. All (λ r. IfOk r (IsBack (P.work plan.now) (P.found_in plan.now) words.now)) v.items) }
+    ensures count { IfOk result (λ v. vec_len v ≡ vec_len jobs) }
 {
     thread::map_vec(
         rt,
@@ -87,7 +90,8 @@ fn run<R: Threads + Sync, P: Readable + Sync, G: Gate + Sync>(
     mut jobs: Vec<Job>,
 ) -> Result<Vec<Result<Back<P::Found>, AllocError>>, AllocError>
     requires { All (IsReady (P.work plan.now) words.now) jobs.items }
-    ensures { IfOk result (λ v. All (λ r. IfOk r (IsBack (P.work plan.now) (P.found_in plan.now) words.now)) v.items) }
+    ensures back { IfOk result (λ v. All (λ r. IfOk r (IsBack (P.work plan.now) (P.found_in plan.now) words.now)) v.items) }
+    ensures count { IfOk result (λ v. vec_len v ≡ vec_len jobs) }
 {
     if starts == 0 || jobs.len() < 2 {
         return run_halved(rt, alloc, words, plan, gate, jobs);
@@ -98,11 +102,13 @@ fn run<R: Threads + Sync, P: Readable + Sync, G: Gate + Sync>(
     let next = starts - 1;
     let there = move || -> Result<Vec<Result<Back<P::Found>, AllocError>>, AllocError>
         requires { All (IsReady (P.work plan.now) words.now) theirs.items }
-        ensures { IfOk result (λ v. All (λ r. IfOk r (IsBack (P.work plan.entry.now) (P.found_in plan.entry.now) words.entry.now)) v.items) }
+        ensures count { IfOk result (λ v. vec_len v ≡ vec_len theirs) }
+        ensures back { IfOk result (λ v. All (λ r. IfOk r (IsBack (P.work plan.entry.now) (P.found_in plan.entry.now) words.entry.now)) v.items) }
     { run_halved(rt, alloc, words, plan, gate, theirs) };
     let here = move || -> Result<Vec<Result<Back<P::Found>, AllocError>>, AllocError>
         requires { All (IsReady (P.work plan.now) words.now) jobs.items }
-        ensures { IfOk result (λ v. All (λ r. IfOk r (IsBack (P.work plan.entry.now) (P.found_in plan.entry.now) words.entry.now)) v.items) }
+        ensures count { IfOk result (λ v. vec_len v ≡ vec_len jobs) }
+        ensures back { IfOk result (λ v. All (λ r. IfOk r (IsBack (P.work plan.entry.now) (P.found_in plan.entry.now) words.entry.now)) v.items) }
     { run(rt, alloc, words, plan, gate, next, jobs) };
     let (backs, own) = thread::join(rt, there, here);
     let mut all = backs?;
@@ -136,6 +142,8 @@ fn absorb<P: Readable>(
     ensures table { seat.new.table ≡ seat.old.table }
     ensures later { IsLater seat.old.view seat.new.view }
     ensures found { AreFound (P.found_in plan.now) seat.new.view results.new }
+    ensures taken { IsTakenIn seat.new.view results.new back }
+    ensures stays { (i : ℕ) → HasResult results.old i → HasResult results.new i }
     ensures written { (before : List ℕ) → AreWritten before seat.old.view results.old → AreWritten before seat.new.view results.new }
 {
     let Back {
@@ -148,14 +156,14 @@ fn absorb<P: Readable>(
     }
 }
 
-/// Takes all seats back.
+/// Takes all seats back, each with what it found. How many there are.
 fn absorb_all<P: Readable>(
     words: &Words<P>,
     seat: &mut WorkSeat,
     plan: &P,
     mut backs: Vec<Result<Back<P::Found>, AllocError>>,
     results: &mut [Option<P::Found>],
-) -> Result<(), AllocError>
+) -> Result<usize, AllocError>
     requires table { seat.old.table ≡ words.now }
     requires work { seat.old.view.work ≡ P.work plan.now }
     requires back { All (λ r. IfOk r (IsBack (P.work plan.now) (P.found_in plan.now) words.now)) backs.items }
@@ -164,12 +172,15 @@ fn absorb_all<P: Readable>(
     ensures table { seat.new.table ≡ seat.old.table }
     ensures later { IsLater seat.old.view seat.new.view }
     ensures found { AreFound (P.found_in plan.now) seat.new.view results.new }
+    ensures taken { OnOk result (All (λ r. IsOkAnd r (IsTakenIn seat.new.view results.new)) backs.items) }
     ensures written { OnOk result (AreWritten seat.old.view.begins seat.new.view results.new) }
+    ensures count { IfOk result (λ n. n ≡ vec_len backs) }
 {
+    let count = backs.len();
     while let Some(back) = backs.pop() {
         absorb(words, seat, plan, back?, results);
     }
-    Ok(())
+    Ok(count)
 }
 
 /// A result for each item, all of them missing.
@@ -198,14 +209,15 @@ fn begin<P: Readable>(
     ensures later { IsLater seat.old.view seat.new.view }
     ensures known { OnOk result ((f : ℕ) → Contains (P.work plan.now).roots f → Contains seat.new.view.known f) }
     ensures listed { OnOk result ((m : Mark) → Contains (P.work plan.now).root_marks m → Contains seat.new.view.marks m) }
+    ensures count { IfOk result (λ v. vec_len v ≡ (if workers == 1 then 0 else workers)) }
 {
-    let mut dealer = Dealer::new(alloc, threads_for(workers))?;
+    let mut dealer = Dealer::new(alloc, hinted(workers))?;
     request_roots(words, seat, plan, &mut dealer);
     mark_roots(words, seat, plan);
     Ok(dealer.into_hints())
 }
 
-/// Reads by threads, and then reads what they left.
+/// Reads by threads, and then reads what they left. How many seats were handed out and taken back.
 fn read_known<R: Threads + Sync, P: Readable + Sync, G: Gate + Sync>(
     rt: &R,
     alloc: Global,
@@ -215,7 +227,7 @@ fn read_known<R: Threads + Sync, P: Readable + Sync, G: Gate + Sync>(
     seat: &mut WorkSeat,
     hints: Vec<Hints>,
     results: &mut [Option<P::Found>],
-) -> Result<(), AllocError>
+) -> Result<usize, AllocError>
     requires table { seat.old.table ≡ words.now }
     requires work { seat.old.view.work ≡ P.work plan.now }
     requires wide { length results.old ≡ length (P.work plan.now).items }
@@ -224,11 +236,13 @@ fn read_known<R: Threads + Sync, P: Readable + Sync, G: Gate + Sync>(
     ensures later { IsLater seat.old.view seat.new.view }
     ensures found { OnOk result (AreFound (P.found_in plan.now) seat.new.view results.new) }
     ensures left { OnOk result (AreNotDue results.new seat.new.view (length (P.work plan.now).items)) }
+    ensures count { IfOk result (λ n. n ≡ vec_len hints) }
 {
     let jobs = jobs_of(alloc, words, seat, plan, hints)?;
     let backs = run(rt, alloc, words, plan, gate, MOST_STARTS, jobs)?;
-    absorb_all(words, seat, plan, backs, results)?;
-    sweep_all(alloc, words, seat, plan, gate, results)
+    let count = absorb_all(words, seat, plan, backs, results)?;
+    sweep_all(alloc, words, seat, plan, gate, results)?;
+    Ok(count)
 }
 
 /// The end of the sharing, once all that is asked for was read.
@@ -238,6 +252,8 @@ pub struct AllRead<T> {
     pub closed: Closed,
     /// What was found in each item of a claimed file, and nothing for the other items.
     pub found: Vec<Option<T>>,
+    /// How many workers read: as many as seats were handed out and taken back, or where there were none the caller's own thread.
+    pub readers: usize,
 }
 
 impl<T> AllRead<T> {
@@ -250,8 +266,8 @@ impl<T> AllRead<T> {
     }
 }
 
-/// Reads all that is asked for, by so many threads, and ends the sharing; one worker is the caller's own thread. Each item that a
-/// thread begins is read between two calls of the gate. It refuses only for want of memory, at the first thread that is refused.
+/// Reads all that is asked for, by so many threads, and ends the sharing; one worker is the caller's own thread. Each item is
+/// read between two calls of the gate. It refuses only for want of memory, at the first thread that is refused.
 pub fn read_all<R: Threads + Sync, P: Readable + Sync, G: Gate + Sync>(
     rt: &R,
     alloc: Global,
@@ -269,11 +285,16 @@ pub fn read_all<R: Threads + Sync, P: Readable + Sync, G: Gate + Sync>(
     ensures read { IfOk result (λ r. HasReadAll r.closed.view) }
     ensures settled { IfOk result (λ r. IsSettled r.closed) }
     ensures found { IfOk result (λ r. AreResultsOf (P.work plan.now) (P.found_in plan.now) r.closed r.found.items) }
+    ensures readers { IfOk result (λ r. r.readers ≡ workers) }
 {
     let mut found = none_found(alloc, plan.items())?;
     let hints = begin(alloc, workers, plan, &words, &mut seat)?;
     let slots = found.as_mut_slice();
-    read_known(rt, alloc, gate, plan, &words, &mut seat, hints, slots)?;
+    let joined = read_known(rt, alloc, gate, plan, &words, &mut seat, hints, slots)?;
     let closed = words.close(seat);
-    Ok(AllRead { closed, found })
+    Ok(AllRead {
+        closed,
+        found,
+        readers: joined.max(1),
+    })
 }

@@ -1,5 +1,5 @@
 //! What is asked for from the start.
-ghost use Rattle.std.specs.Prelude.{◌≡◌, ℕ, ◌<◌, length, slice_get, Some, Contains};
+ghost use Rattle.std.specs.Prelude.{◌≡◌, ℕ, ◌<◌, length, slice_get, Some, Contains, vec_len};
 ghost use Rattle.link_closure.specs.declared.workload.Mark.{Mark};
 ghost use Rattle.link_claim.specs.Later.{IsLater};
 
@@ -19,6 +19,7 @@ fn request_root<P: Readable>(
     requires work { seat.old.view.work ≡ P.work plan.now }
     ensures table { seat.new.table ≡ seat.old.table }
     ensures later { IsLater seat.old.view seat.new.view }
+    ensures workers { vec_len dealer.new.all ≡ vec_len dealer.old.all }
     ensures known { (f : ℕ) → slice_get (P.work plan.now).roots index ≡ Some f → Contains seat.new.view.known f }
 {
     let Some(file) = plan.root_at(index) else {
@@ -56,6 +57,7 @@ pub(crate) fn request_roots<P: Readable>(
     requires work { seat.old.view.work ≡ P.work plan.now }
     ensures table { seat.new.table ≡ seat.old.table }
     ensures later { IsLater seat.old.view seat.new.view }
+    ensures workers { vec_len dealer.new.all ≡ vec_len dealer.old.all }
     ensures known { (f : ℕ) → Contains (P.work plan.now).roots f → Contains seat.new.view.known f }
 {
     for index in 0..plan.root_count() {

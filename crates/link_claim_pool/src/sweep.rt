@@ -1,30 +1,17 @@
 //! What the threads left is read by one.
 ghost use Rattle.std.specs.Prelude.{◌≡◌, ℕ, ◌<◌, ◌≤◌, length, slice_get, MatchBool, None, Some, IfOk, OnOk};
 ghost use Rattle.std.specs.Bool.{OnTrue};
-ghost use Rattle.link_claim.specs.Later.{IsLater, HasRead};
+ghost use Rattle.link_claim.specs.Later.{HasRead};
 ghost use Rattle.link_claim.specs.Views.{MayBegin};
-ghost use Rattle.link_claim_pool.specs.Found.{AreFound, AreNotDue, missing, Visits, Sweeps};
+ghost use Rattle.link_claim_pool.specs.Found.{AreNotDue, missing, Visits, Sweeps};
+ghost use Rattle.link_claim_pool.specs.Sweeping.{GoesOn, MaySweep};
 
 use crate::readable::Readable;
-use crate::reading::{ItemRead, read_item};
-use link_claim::{Gate, Words, WorkSeat};
+use crate::reading::{ItemRead, read_through};
+use link_claim::{Gate, Passage, Words, WorkSeat};
 use std::alloc::{AllocError, Global};
 
-/// Calls the gate, if this thread began the item.
-fn before<G: Gate>(gate: &G, began: bool, item: usize) {
-    if began {
-        gate.before(item);
-    }
-}
-
-/// The same, once the item was read.
-fn after<G: Gate>(gate: &G, began: bool, item: usize) {
-    if began {
-        gate.after(item);
-    }
-}
-
-/// Begins the item, and reads it even if another did. The files that it claims go to those whose items are yet to be visited.
+/// Begins the item, and reads it even if another began it. The files that it claims go to those whose items are yet to be visited.
 fn read_anyway<P: Readable, G: Gate>(
     alloc: Global,
     words: &Words<P>,
@@ -38,15 +25,14 @@ fn read_anyway<P: Readable, G: Gate>(
     requires work { seat.old.view.work ≡ P.work plan.now }
     requires item { item < length (P.work plan.now).items }
     requires may { MayBegin seat.old.view item }
-    ensures table { seat.new.table ≡ seat.old.table }
-    ensures later { IsLater seat.old.view seat.new.view }
+    ensures goes_on { GoesOn seat.old seat.new }
     ensures read { OnOk result (HasRead seat.new.view item) }
     ensures found { IfOk result (P.found_in plan.now item) }
 {
-    let began = seat.begin(words, item);
-    before(gate, began, item);
-    let read = read_item(alloc, plan, words, seat, item);
-    after(gate, began, item);
+    seat.begin(words, item);
+    let passage = Passage::enter(gate, item);
+    let read = read_through(alloc, plan, words, seat, &passage);
+    passage.leave(gate);
     let ItemRead {
         claimed: mut files,
         found,
@@ -80,13 +66,9 @@ fn visit<P: Readable, G: Gate>(
     results: &mut [Option<P::Found>],
     item: usize,
 ) -> Result<bool, AllocError>
-    requires table { seat.old.table ≡ words.now }
-    requires work { seat.old.view.work ≡ P.work plan.now }
-    requires wide { length results.old ≡ length (P.work plan.now).items }
-    requires found { AreFound (P.found_in plan.now) seat.old.view results.old }
-    ensures table { seat.new.table ≡ seat.old.table }
-    ensures later { IsLater seat.old.view seat.new.view }
-    ensures found { OnOk result (AreFound (P.found_in plan.now) seat.new.view results.new) }
+    requires may { MaySweep (P.found_in plan.now) (P.work plan.now) words.now seat.old results.old }
+    ensures goes_on { GoesOn seat.old seat.new }
+    ensures may { OnOk result (MaySweep (P.found_in plan.now) (P.work plan.now) words.now seat.new results.new) }
     ensures visit { IfOk result (λ b. Visits b results.old seat.old.view results.new seat.new.view item) }
 {
     if !is_missing(results, item) {
@@ -110,13 +92,9 @@ fn pass<P: Readable, G: Gate>(
     claimed: &mut Vec<usize>,
     results: &mut [Option<P::Found>],
 ) -> Result<bool, AllocError>
-    requires table { seat.old.table ≡ words.now }
-    requires work { seat.old.view.work ≡ P.work plan.now }
-    requires wide { length results.old ≡ length (P.work plan.now).items }
-    requires found { AreFound (P.found_in plan.now) seat.old.view results.old }
-    ensures table { seat.new.table ≡ seat.old.table }
-    ensures later { IsLater seat.old.view seat.new.view }
-    ensures found { OnOk result (AreFound (P.found_in plan.now) seat.new.view results.new) }
+    requires may { MaySweep (P.found_in plan.now) (P.work plan.now) words.now seat.old results.old }
+    ensures goes_on { GoesOn seat.old seat.new }
+    ensures may { OnOk result (MaySweep (P.found_in plan.now) (P.work plan.now) words.now seat.new results.new) }
     ensures sweep { IfOk result (λ b. Sweeps b results.old seat.old.view results.new seat.new.view (length (P.work plan.now).items)) }
 {
     let mut more = false;
@@ -138,13 +116,9 @@ fn visit_file<P: Readable, G: Gate>(
     results: &mut [Option<P::Found>],
     file: usize,
 ) -> Result<(), AllocError>
-    requires table { seat.old.table ≡ words.now }
-    requires work { seat.old.view.work ≡ P.work plan.now }
-    requires wide { length results.old ≡ length (P.work plan.now).items }
-    requires found { AreFound (P.found_in plan.now) seat.old.view results.old }
-    ensures table { seat.new.table ≡ seat.old.table }
-    ensures later { IsLater seat.old.view seat.new.view }
-    ensures found { OnOk result (AreFound (P.found_in plan.now) seat.new.view results.new) }
+    requires may { MaySweep (P.found_in plan.now) (P.work plan.now) words.now seat.old results.old }
+    ensures goes_on { GoesOn seat.old seat.new }
+    ensures may { OnOk result (MaySweep (P.found_in plan.now) (P.work plan.now) words.now seat.new results.new) }
     ensures fewer { OnOk result (missing results.new ≤ missing results.old) }
 {
     let (first, count) = plan.items_of(file);
@@ -166,13 +140,9 @@ fn visit_claimed<P: Readable, G: Gate>(
     claimed: &mut Vec<usize>,
     results: &mut [Option<P::Found>],
 ) -> Result<(), AllocError>
-    requires table { seat.old.table ≡ words.now }
-    requires work { seat.old.view.work ≡ P.work plan.now }
-    requires wide { length results.old ≡ length (P.work plan.now).items }
-    requires found { AreFound (P.found_in plan.now) seat.old.view results.old }
-    ensures table { seat.new.table ≡ seat.old.table }
-    ensures later { IsLater seat.old.view seat.new.view }
-    ensures found { OnOk result (AreFound (P.found_in plan.now) seat.new.view results.new) }
+    requires may { MaySweep (P.found_in plan.now) (P.work plan.now) words.now seat.old results.old }
+    ensures goes_on { GoesOn seat.old seat.new }
+    ensures may { OnOk result (MaySweep (P.found_in plan.now) (P.work plan.now) words.now seat.new results.new) }
     ensures fewer { OnOk result (missing results.new ≤ missing results.old) }
 {
     for _ in 0..plan.files() {
@@ -193,13 +163,9 @@ fn sweep<P: Readable, G: Gate>(
     gate: &G,
     results: &mut [Option<P::Found>],
 ) -> Result<bool, AllocError>
-    requires table { seat.old.table ≡ words.now }
-    requires work { seat.old.view.work ≡ P.work plan.now }
-    requires wide { length results.old ≡ length (P.work plan.now).items }
-    requires found { AreFound (P.found_in plan.now) seat.old.view results.old }
-    ensures table { seat.new.table ≡ seat.old.table }
-    ensures later { IsLater seat.old.view seat.new.view }
-    ensures found { OnOk result (AreFound (P.found_in plan.now) seat.new.view results.new) }
+    requires may { MaySweep (P.found_in plan.now) (P.work plan.now) words.now seat.old results.old }
+    ensures goes_on { GoesOn seat.old seat.new }
+    ensures may { OnOk result (MaySweep (P.found_in plan.now) (P.work plan.now) words.now seat.new results.new) }
     ensures sweep { IfOk result (λ b. Sweeps b results.old seat.old.view results.new seat.new.view (length (P.work plan.now).items)) }
 {
     let mut claimed = Vec::new(alloc);
@@ -219,13 +185,9 @@ pub(crate) fn sweep_all<P: Readable, G: Gate>(
     gate: &G,
     results: &mut [Option<P::Found>],
 ) -> Result<(), AllocError>
-    requires table { seat.old.table ≡ words.now }
-    requires work { seat.old.view.work ≡ P.work plan.now }
-    requires wide { length results.old ≡ length (P.work plan.now).items }
-    requires found { AreFound (P.found_in plan.now) seat.old.view results.old }
-    ensures table { seat.new.table ≡ seat.old.table }
-    ensures later { IsLater seat.old.view seat.new.view }
-    ensures found { OnOk result (AreFound (P.found_in plan.now) seat.new.view results.new) }
+    requires may { MaySweep (P.found_in plan.now) (P.work plan.now) words.now seat.old results.old }
+    ensures goes_on { GoesOn seat.old seat.new }
+    ensures may { OnOk result (MaySweep (P.found_in plan.now) (P.work plan.now) words.now seat.new results.new) }
     ensures left { OnOk result (AreNotDue results.new seat.new.view (length (P.work plan.now).items)) }
 {
     let mut more = true;

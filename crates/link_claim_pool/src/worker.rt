@@ -7,9 +7,9 @@ ghost use Rattle.link_claim_pool.specs.Jobs.{AllFound, AreKept, IsReady, IsBack}
 
 use crate::hints::Hints;
 use crate::readable::Readable;
-use crate::reading::{ItemRead, read_item};
+use crate::reading::{ItemRead, read_through};
 use crossbeam_utils::Backoff;
-use link_claim::{Gate, Words, WorkSeat};
+use link_claim::{Gate, Passage, Words, WorkSeat};
 use std::alloc::{AllocError, Global};
 
 /// How many turns in a row without a hint end a worker. Behind each it pauses, longer and longer, and then lets other threads run: so one that
@@ -59,7 +59,7 @@ fn begin_hinted<P: Readable>(words: &Words<P>, seat: &mut WorkSeat, plan: &P, it
     seat.begin(words, item)
 }
 
-/// Reads an item that a hint names, if its file is claimed and nobody began it.
+/// Reads an item that a hint names, if its file is claimed and nobody began it. It leaves the gate also where the reading is refused.
 fn follow<P: Readable, G: Gate>(
     alloc: Global,
     words: &Words<P>,
@@ -81,9 +81,9 @@ fn follow<P: Readable, G: Gate>(
     if !begin_hinted(words, seat, plan, item) {
         return Ok(None);
     }
-    gate.before(item);
-    let read = read_item(alloc, plan, words, seat, item);
-    gate.after(item);
+    let passage = Passage::enter(gate, item);
+    let read = read_through(alloc, plan, words, seat, &passage);
+    passage.leave(gate);
     let ItemRead { claimed, found, .. } = read?;
     hints.add_items(plan, &claimed);
     Ok(Some(Finding { item, found }))

@@ -5,7 +5,7 @@ ghost use Rattle.link_claim.specs.Steps.{start, after, AllLegal, IsAllRead};
 ghost use Rattle.link_claim.specs.Examples.{eight_files, three_files, three_files_read, two_workers};
 
 use bitflags::Flags;
-use link_claim::{AtomicPerSymbolFlags, Closed, Gate, OpenGate, Plan, Words, WorkSeat};
+use link_claim::{AtomicPerSymbolFlags, Closed, OpenGate, Passage, Plan, Words, WorkSeat};
 use link_flags::ValueFlags;
 use link_ids::{SymbolId, SymbolIdRange};
 use std::alloc::{AllocError, Global};
@@ -135,9 +135,9 @@ fn begin(words: &Words<EightFiles>, seat: &mut WorkSeat, tally: &mut Tally)
 {
     if seat.check(words, 0) {
         if seat.begin(words, 0) {
-            OpenGate.before(0);
+            let passage = Passage::enter(&OpenGate, 0);
             tally.begins = tally.begins.saturating_add(1);
-            OpenGate.after(0);
+            passage.leave(&OpenGate);
         }
     }
 }

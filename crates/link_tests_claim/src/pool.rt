@@ -344,6 +344,7 @@ fn are_claimed(claimed: &[bool], files: usize) -> bool {
 #[derive(Drop)]
 struct Meeting {
     came: AtomicU64,
+    left: AtomicU64,
     late: AtomicU64,
 }
 
@@ -358,27 +359,31 @@ impl Gate for Meeting {
         self.late.fetch_add(1, Ordering::SeqCst);
     }
 
-    fn after(&self, _item: usize) {}
+    fn after(&self, _item: usize) {
+        self.left.fetch_add(1, Ordering::SeqCst);
+    }
 }
 
-/// Whether four threads read four files, how many of them came to the gate, and how many waited in vain.
-fn meet<R: Threads + Sync>(rt: &R, alloc: Global) -> Result<(bool, u64, u64), AllocError> {
+/// Whether four threads read four files, how many of them came to the gate and left it, and how many waited in vain.
+fn meet<R: Threads + Sync>(rt: &R, alloc: Global) -> Result<(bool, u64, u64, u64), AllocError> {
     let plan = Scattered::new(4, 4, false);
     let gate = Meeting {
         came: AtomicU64::new(0),
+        left: AtomicU64::new(0),
         late: AtomicU64::new(0),
     };
     let outcome = by_threads(rt, alloc, &gate, 4, &plan)?;
     Ok((
         are_claimed(&outcome.claimed, 4),
         gate.came.load(Ordering::SeqCst),
+        gate.left.load(Ordering::SeqCst),
         gate.late.load(Ordering::SeqCst),
     ))
 }
 
 #[test]
 fn four_threads_meet(rt: HostRuntime) -> Result<(), Fail> {
-    assert_eq!(rt; meet(&rt, rt.alloc())?, (true, 4, 0));
+    assert_eq!(rt; meet(&rt, rt.alloc())?, (true, 4, 4, 0));
     Ok(())
 }
 

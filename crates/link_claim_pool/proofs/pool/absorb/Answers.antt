@@ -1,8 +1,8 @@
-use Rattle.std.proofs.Common.{◌≡◌, Some, length, sym, ◌∙◌, subst, arith}
+use Rattle.std.proofs.Common.{◌≡◌, Some, length, sym, ◌∙◌, subst, inl, inr, arith}
 use Rattle.std.proofs.lemmas.List.Elements.{All-pop}
 use Rattle.link_claim_pool.specs.Found.{IsFound, AreFound}
 use Rattle.link_claim_pool.proofs.Findings.{are_found_later, all_found_later, found_below, found_set}
-use Rattle.link_claim_pool.proofs.Begins.{written_join, written_put, written_end}
+use Rattle.link_claim_pool.proofs.Begins.{in_hand_put, in_hand_end, written_join}
 use Rattle.link_claim_pool.proofs.pool.absorb.Goals as goal
 
 pub loop-finding-init : goal.loop-finding-init
@@ -13,7 +13,7 @@ loop-finding-init g c =
     record {
       found = are_found_later found c.args.seat.now.view u c.args.results.now c.join.ensures.later c.requires.found;
       rest = all_found_later found c.args.back.seat.view u c.args.back.findings.items c.join.ensures.later_than_other back.2;
-      written = λ before all. all;
+      in_hand = λ i has. has;
     }
 
 pub put-requires : goal.put-requires
@@ -37,18 +37,29 @@ loop-finding-preserved g c =
     record {
       found = subst (AreFound found u) (sym c.put.ensures) (found_set found u results f.item f.found c.loop-finding.invariant.found popped.1);
       rest = popped.0;
-      written = λ before all.
-          written_put before u c.put.new.results results c.loop-finding.findings.items c.pop.new.self.items f c.put.ensures lt c.in-Some.ensures.items
-          (c.loop-finding.invariant.written before all);
+      in_hand = λ i has.
+          in_hand_put c.put.new.results results c.loop-finding.findings.items c.pop.new.self.items f c.put.ensures lt c.in-Some.ensures.items i
+          (c.loop-finding.invariant.in_hand i has);
     }
+
+pub returns-clause-stays : goal.returns-clause-stays
+returns-clause-stays g c i has =
+    let empty = c.in_default.ensures.cases.0 in
+    let fs = c.loop-finding.findings in
+    let none : length fs.items ≡ 0 = omega (arith, fs.ok) in
+    in_hand_end c.loop-finding.results fs.items none i (c.loop-finding.invariant.in_hand i (inl has))
+
+pub returns-clause-taken : goal.returns-clause-taken
+returns-clause-taken g c =
+    let empty = c.in_default.ensures.cases.0 in
+    let fs = c.loop-finding.findings in
+    let none : length fs.items ≡ 0 = omega (arith, fs.ok) in
+    (c.join.ensures.later_than_other, λ i has. in_hand_end c.loop-finding.results fs.items none i (c.loop-finding.invariant.in_hand i (inr has)))
 
 pub returns-clause-written : goal.returns-clause-written
 returns-clause-written g c before old =
-    let cases = c.in_default.ensures.cases in
-    let empty = cases.0 in
+    let empty = c.in_default.ensures.cases.0 in
     let fs = c.loop-finding.findings in
     let none : length fs.items ≡ 0 = omega (arith, fs.ok) in
-    let v = c.args.seat.now.view in
-    let u = c.join.new.self.view in
-    written_end before u c.loop-finding.results fs.items none
-    (c.loop-finding.invariant.written before (written_join before v c.args.back.seat.view u c.args.results.now c.args.back.findings.items c.join.ensures.view old c.requires.back.3))
+    written_join before c.args.seat.now.view c.args.back.seat.view c.join.new.self.view c.args.results.now c.loop-finding.results c.args.back.findings.items c.join.ensures.view
+    (λ i has. in_hand_end c.loop-finding.results fs.items none i (c.loop-finding.invariant.in_hand i has)) c.requires.back.3 old

@@ -1,7 +1,8 @@
-use Rattle.std.proofs.Common.{◌≡◌, All, IfOk, vec_len}
+use Rattle.std.proofs.Common.{◌≡◌, All, Contains, IfOk, vec_len}
+use Rattle.std.specs.Prelude.{◌⊎◌, IsOkAnd}
 use Rattle.link_claim.specs.Later.{IsLater}
 use Rattle.link_claim_pool.specs.Found.{AreFound, AreWritten}
-use Rattle.link_claim_pool.specs.Jobs.{IsBack}
+use Rattle.link_claim_pool.specs.Jobs.{IsBack, IsTakenIn}
 use Rattle.link_claim_pool.proofs.pool.absorb_all.Given as goal
 
 abbrev pub invariant-loop-back : goal.invariant-loop-back
@@ -10,6 +11,7 @@ invariant-loop-back g l = record {
   later : IsLater l.initial.seat.view l.seat.view;
   found : AreFound (g.P.Readable.found_in l.plan) l.seat.view l.results;
   written : AreWritten l.initial.seat.view.begins l.seat.view l.results;
+  taken : All (λ r. Contains l.backs.items r ⊎ IsOkAnd r (IsTakenIn l.seat.view l.results)) l.initial.backs.items;
   rest : All (λ r. IfOk r (IsBack (g.P.Plan.work l.plan) (g.P.Readable.found_in l.plan) l.words)) l.backs.items;
 }
 

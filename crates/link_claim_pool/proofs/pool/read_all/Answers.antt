@@ -23,7 +23,7 @@ returns-clause-read g c =
     let e = ap length c.as_mut_slice-slots.ensures.value in
     subst HasReadAll (sym c.close-closed.ensures.view)
     (all_read (g.P.Readable.found_in c.args.plan.now) w v c.read_known.new.results (rest.same ∙ c.begin.ensures.later.same ∙ c.requires.work) (omega arith)
-    c.in_ok-read_known.ensures.found c.in_ok-read_known.ensures.left (λ f has. rest.known f (c.in_ok-hints.ensures.known f has)) (λ k has. rest.marks k (c.in_ok-hints.ensures.listed k has)))
+    c.in_ok-joined.ensures.found c.in_ok-joined.ensures.left (λ f has. rest.known f (c.in_ok-hints.ensures.known f has)) (λ k has. rest.marks k (c.in_ok-hints.ensures.listed k has)))
 
 pub returns-clause-settled : goal.returns-clause-settled
 returns-clause-settled g c =
@@ -44,6 +44,6 @@ returns-clause-found g c =
     let e = ap length c.as_mut_slice-slots.ensures.value in
     let wide : length s ≡ length w.items = omega arith in
     let whole : length s ≡ c.in_ok-found.found.len = omega (arith, c.in_ok-found.found.ok) in
-    let right = results_are found w v s (rest.same ∙ c.begin.ensures.later.same ∙ c.requires.work) wide c.in_ok-read_known.ensures.found c.in_ok-read_known.ensures.left
+    let right = results_are found w v s (rest.same ∙ c.begin.ensures.later.same ∙ c.requires.work) wide c.in_ok-joined.ensures.found c.in_ok-joined.ensures.left
     c.close-closed.result c.close-closed.ensures.view (returns-clause-settled g c) in
     subst (AreResultsOf w found c.close-closed.result) (sym (written s (drop (length s) c.in_ok-found.found.items) c.in_ok-found.found.len whole)) right

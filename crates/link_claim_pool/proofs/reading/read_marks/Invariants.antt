@@ -12,5 +12,6 @@ invariant-loop-index g l = record {
   later : IsLater l.initial.seat.view l.seat.view;
   begins : l.seat.view.begins ≡ l.initial.seat.view.begins;
   claims : l.seat.view.claims ≡ l.initial.seat.view.claims;
+  known : l.seat.view.known ≡ l.initial.seat.view.known;
   read : (j : ℕ) → j < l.index → (it : Item) → HasItem (g.P.Plan.work l.plan) l.item it → (m : Mark) → slice_get it.marks j ≡ Some m → Contains l.seat.view.marks m;
 }

@@ -8,3 +8,6 @@ request_counted-requires-clause-asked g c =
 -- there is no index without a request
 pub returns-in_default-clause-count : goal.returns-in_default-clause-count
 returns-in_default-clause-count g c = absurd (request_there (g.P.Plan.work c.args.plan.now) c.args.item c.args.index c.requires.item c.requires.index c.in_default.ensures)
+
+pub returns-in_default-clause-asked : goal.returns-in_default-clause-asked
+returns-in_default-clause-asked g c = absurd (request_there (g.P.Plan.work c.args.plan.now) c.args.item c.args.index c.requires.item c.requires.index c.in_default.ensures)

@@ -1,19 +1,18 @@
-use Rattle.std.proofs.Common.{◌≡◌, ◌∙◌, length, subst, arith}
-use Rattle.link_claim.proofs.Later.{later_then}
+use Rattle.std.proofs.Common.{◌≡◌, length, subst, arith}
 use Rattle.link_claim_pool.specs.Found.{Sweeps}
 use Rattle.link_claim_pool.proofs.Findings.{sweep_more}
+use Rattle.link_claim_pool.proofs.Sweeping.{goes_then}
 use Rattle.link_claim_pool.proofs.sweep.pass.Goals as goal
 
-pub returns-in_err-read-clause-later : goal.returns-in_err-read-clause-later
-returns-in_err-read-clause-later g c = later_then c.loop-item.invariant.later c.visit.ensures.later
+pub returns-in_err-read-clause-goes_on : goal.returns-in_err-read-clause-goes_on
+returns-in_err-read-clause-goes_on g c = goes_then c.loop-item.invariant.goes_on c.visit.ensures.goes_on
 
 pub loop-item-preserved : goal.loop-item-preserved
 loop-item-preserved g c =
     let inv = c.loop-item.invariant in
     record {
-      table = c.visit.ensures.table ∙ inv.table;
-      later = later_then inv.later c.visit.ensures.later;
-      found = c.in_ok-read.ensures.found;
+      goes_on = goes_then inv.goes_on c.visit.ensures.goes_on;
+      may = c.in_ok-read.ensures.may;
       swept = sweep_more c.loop-item.more c.in_ok-read.read c.args.results.now c.args.seat.now.view c.loop-item.results c.loop-item.seat.view
           c.visit.new.results c.visit.new.seat.view c.loop-item.item inv.swept c.in_ok-read.ensures.visit;
     }

@@ -1,13 +1,12 @@
 use Rattle.std.proofs.Common.{◌≡◌, ◌+◌, false, cond, length}
-use Rattle.link_claim.specs.Later.{IsLater}
-use Rattle.link_claim_pool.specs.Found.{AreFound, AreNotDue, missing}
+use Rattle.link_claim_pool.specs.Found.{AreNotDue, missing}
+use Rattle.link_claim_pool.specs.Sweeping.{GoesOn, MaySweep}
 use Rattle.link_claim_pool.proofs.sweep.sweep_all.Given as goal
 
 abbrev pub invariant-loop-more : goal.invariant-loop-more
 invariant-loop-more g l = record {
-  table : l.seat.table ≡ l.initial.seat.table;
-  later : IsLater l.initial.seat.view l.seat.view;
-  found : AreFound (g.P.Readable.found_in l.plan) l.seat.view l.results;
+  goes_on : GoesOn l.initial.seat l.seat;
+  may : MaySweep (g.P.Readable.found_in l.plan) (g.P.Plan.work l.plan) l.words l.seat l.results;
   left : l.more ≡ false → AreNotDue l.results l.seat.view (length (g.P.Plan.work l.plan).items);
 }
 
