@@ -11,6 +11,7 @@ use Rattle.link_input_groups.specs.declared.group.Group.{Group}
 use Rattle.link_input_groups.specs.Held.{AreGroupsOf}
 use Rattle.link_db_files.specs.Inputs.{scripts_in}
 use Rattle.link_db_files.proofs.Joining.{scripts-of-batches}
+use Rattle.link_script_syntax.specs.declared.profile.ScriptProfile.{ScriptProfile}
 use Rattle.link_rules.specs.declared.refusal.LinkError.{LinkError}
 use Rattle.link_rules.specs.Places.{is_empty}
 use Rattle.link_rules.specs.Refusals.{linker_script_cause}
@@ -48,16 +49,16 @@ few-scripts options (b ∷ bs) groups held =
     omega (arith, held.within.scripts, ap (λ (l : List ProcessedLinkerScript). length l) (scripts-of-batches options (b ∷ bs) groups held))
 
 -- the cause of the linker scripts of a batch, as the call asks for it and as the batches before it say it
-pub same-cause : {P : Type 0} (options : Options) (batches : List Batch) (groups lent all : List (Group P)) (none_held : Bool) (first : ℕ) (scripts given : List ProcessedLinkerScript) (taken : Bool)
+pub same-cause : {P : Type 0} (profile : ScriptProfile) (options : Options) (batches : List Batch) (groups lent all : List (Group P)) (none_held : Bool) (first : ℕ) (scripts given : List ProcessedLinkerScript) (taken : Bool)
     → AreGroupsOf options batches groups → lent ≡ groups → none_held ≡ (length lent == 0) → all ≡ groups → first ≡ length (scripts_in all) → scripts ≡ given
-    → linker_script_cause (not none_held) taken first scripts ≡ linker_script_cause (not (is_empty batches)) taken (length (flat_map (λ (b : Batch). b.scripts) batches)) given
-same-cause {P} options batches groups lent all none_held first scripts given taken held same none every count own =
+    → linker_script_cause profile (not none_held) taken first scripts ≡ linker_script_cause profile (not (is_empty batches)) taken (length (flat_map (λ (b : Batch). b.scripts) batches)) given
+same-cause {P} profile options batches groups lent all none_held first scripts given taken held same none every count own =
     let late : not none_held ≡ not (is_empty batches) =
     ap not none ∙ ap (λ (gs : List (Group P)). not (length gs == 0)) same ∙ empty-counted groups ∙ late-batches options batches groups held in
     let at : first ≡ length (flat_map (λ (b : Batch). b.scripts) batches) =
     count ∙ ap (λ (gs : List (Group P)). length (scripts_in gs)) every ∙ ap (λ (l : List ProcessedLinkerScript). length l) (scripts-of-batches options batches groups held) in
-    ap (λ (b : Bool). linker_script_cause b taken first scripts) late ∙ ap (λ (n : ℕ). linker_script_cause (not (is_empty batches)) taken n scripts) at
-    ∙ ap (linker_script_cause (not (is_empty batches)) taken (length (flat_map (λ (b : Batch). b.scripts) batches))) own
+    ap (λ (b : Bool). linker_script_cause profile b taken first scripts) late ∙ ap (λ (n : ℕ). linker_script_cause profile (not (is_empty batches)) taken n scripts) at
+    ∙ ap (linker_script_cause profile (not (is_empty batches)) taken (length (flat_map (λ (b : Batch). b.scripts) batches))) own
 
 -- a refusal that is handed on tells what it told
 pub tells-through : (A : Type 0) (cause : Option LinkError) (e : LinkError) (r : Result A LinkError) → IsErr r → IsErrAnd r (λ x. x ≡ e) → TellsCause {A = A} cause (Err e) → TellsCause cause r

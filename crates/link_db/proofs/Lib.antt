@@ -6,7 +6,5 @@ pub mod GroupCounts
 pub mod Ids
 pub mod LastEntry
 pub mod LinkerGroups
-pub mod Lookups
 pub mod SameMapping
 pub mod Walked
-pub mod Within

@@ -30,7 +30,7 @@ flags_in parts = flat_map (λ part. read.numbers_of part.flags.items) parts
 -- the first cause that the files of a batch bring: a version text, or more of something than ids can name
 abbrev pub inputs_cause : {P : Type 0} → Database P → List Batch → Batch → Option LinkError
 inputs_cause db batches b = first_cause
-    (linker_script_cause (not (is_empty batches)) db.rules.is_taken (length (flat_map (λ x. x.scripts) batches)) b.scripts
+    (linker_script_cause db.rules.profile (not (is_empty batches)) db.rules.is_taken (length (flat_map (λ x. x.scripts) batches)) b.scripts
     ∷ too_many (first_excess (counts_of db.options (batches ++ b ∷ []))) ∷ [])
 
 -- more symbols: the table has an entry for each, of which each new one points to itself, and no name is overridden; options and workers are as before, and the linker has added no symbol

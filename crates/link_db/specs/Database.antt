@@ -4,9 +4,9 @@ use Rattle.link_input.specs.declared.options.Options.{Options}
 use Rattle.link_rules.specs.Places.{Bytes}
 use Rattle.link_rules.specs.Targets.{NameTable}
 use Rattle.link_db_texts.specs.ReadTexts.{ReadTexts}
-use Rattle.link_db_files.specs.HeldFiles.{names_in, is_shared_in, strength_of}
-use Rattle.link_db_mapping.specs.Keys.{versioned_key}
-use Rattle.link_db_mapping.specs.Mapped.{Mapped, later_in, mapped_key, mapping_of}
+use Rattle.link_db_files.specs.HeldFiles.{names_in}
+use Rattle.link_db_lookup.specs.Tables.{name_table_in}
+use Rattle.link_db_mapping.specs.Mapped.{Mapped}
 
 -- the options, what the scripts say of names, the number of workers, which symbols define names, and what each symbol points to: nothing while
 -- the table is taken
@@ -39,10 +39,4 @@ pub record IsSound {P : Type 0} (db : Database P) : Type 0 where
 
 -- what names are mapped to, and what is known of the symbols by their ids
 abbrev pub name_table_of : {P : Type 0} → Database P → NameTable
-name_table_of db = record {
-  plain = mapping_of db.mapping;
-  versioned = λ name version. mapped_key db.mapping (versioned_key name version);
-  later = later_in db.mapping;
-  is_shared = is_shared_in db.mapping.files;
-  strength = strength_of db.mapping.files;
-}
+name_table_of db = name_table_in db.mapping

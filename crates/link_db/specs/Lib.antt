@@ -7,4 +7,3 @@ pub mod RustForm
 pub mod RustScript
 pub mod Seen
 pub mod Synthetic
-pub mod Unshared

@@ -14,5 +14,5 @@ pub fn targets_are_symbols<P: Platform>(db: &SymbolDb<P>)
     ensures { (allow_dynamic : Bool) (name : Bytes) (version : Option Bytes)
         → IfSome (target_in P.WEAK_SYMBOLS_OVERRIDE_COMMON (name_table_of (seen db.now)) allow_dynamic name version) (λ id. id < length (symbol_names (seen db.now))) }
 {
-    let _options = &db.options;
+    link_db_lookup::targets_are_symbols(&db.mapping);
 }

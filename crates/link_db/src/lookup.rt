@@ -1,22 +1,19 @@
 //! What a reference stands for.
 
 use crate::database::SymbolDb;
-use crate::key::SymbolKey;
-use crate::picking::pick_unshared;
 use link_db_buckets::key_hash;
+use link_db_lookup::{SymbolKey, target_of};
 use link_db_mapping::MappedNames;
 use link_ids::SymbolId;
 use link_input::Platform;
 use std::alloc::{AllocError, Global};
 
 impl<P: Platform> SymbolDb<P> {
-    ghost use Rattle.std.specs.Prelude.{◌≡◌, ◌≢◌, ◌<◌, ◌||◌, ℕ, All, AllPairs, Contains, IfOk, IfSome, None, Option, Some, false, length, not};
+    ghost use Rattle.std.specs.Prelude.{◌≡◌, ◌≢◌, ◌<◌, ℕ, All, AllPairs, Contains, IfOk, IfSome, None, Option, Some, false, length};
     ghost use Rattle.link_db_buckets.specs.Keys.{hash_of};
-    ghost use Rattle.link_flags.specs.Pick.{pick};
-    ghost use Rattle.link_db_files.specs.HeldFiles.{is_shared_in};
     ghost use Rattle.link_db_mapping.specs.Mapped.{AreHeadsMarked, later_in, later_versioned_in, mapping_of};
     ghost use Rattle.link_rules.specs.Places.{Bytes};
-    ghost use Rattle.link_rules.specs.Targets.{mapped_in, target_in, unshared_in};
+    ghost use Rattle.link_rules.specs.Targets.{mapped_in, target_in};
     ghost use Rattle.link_db.specs.Database.{name_table_of, symbol_names};
     ghost use Rattle.link_db.specs.Seen.{seen};
 
@@ -27,20 +24,7 @@ impl<P: Platform> SymbolDb<P> {
         ensures target { result ≡ target_in P.WEAK_SYMBOLS_OVERRIDE_COMMON (name_table_of (seen self.now)) allow_dynamic key.now.name key.now.version }
         ensures within { IfSome result (λ id. id < length (symbol_names (seen self.now))) }
     {
-        let mapped = self.mapped(key)?;
-        if self.is_open(mapped, allow_dynamic) {
-            Some(mapped)
-        } else {
-            self.pick_later(mapped)
-        }
-    }
-
-    /// What the name, or the name and version, is mapped to.
-    fn mapped(&self, key: &SymbolKey<'_>) -> Option<SymbolId>
-        ensures value { result ≡ mapped_in (name_table_of (seen self.now)) key.now.name key.now.version }
-        ensures within { IfSome result (λ id. id < length (symbol_names (seen self.now))) }
-    {
-        self.mapping.mapped(key.hash, key.name, key.version)
+        target_of(&self.mapping, key, allow_dynamic)
     }
 
     /// Whether some name, or name and version, with this hash number may be mapped: where the answer is no, none of them is, and a reference to it stands
@@ -50,14 +34,6 @@ impl<P: Platform> SymbolDb<P> {
             → mapped_in (name_table_of (seen self.now)) name version ≡ None }
     {
         self.mapping.may_have(hash)
-    }
-
-    /// Whether the reference may stand for the symbol: it may be dynamic, or the symbol isn't shared.
-    fn is_open(&self, symbol: SymbolId, allow_dynamic: bool) -> bool
-        requires { symbol < length (symbol_names (seen self.now)) }
-        ensures { result ≡ (allow_dynamic || not (is_shared_in (seen self.now).mapping.files symbol)) }
-    {
-        allow_dynamic || !self.files().is_shared(symbol)
     }
 
     /// The symbol that the name is mapped to, whatever the reference.
@@ -104,14 +80,5 @@ impl<P: Platform> SymbolDb<P> {
         ensures { IfOk result (λ marks. AreHeadsMarked (seen self.now).mapping marks.items) }
     {
         self.mapping.heads_of_several(alloc)
-    }
-
-    /// The pick of the later definitions of a symbol's name that are not shared.
-    fn pick_later(&self, symbol: SymbolId) -> Option<SymbolId>
-        requires { symbol < length (symbol_names (seen self.now)) }
-        ensures value { result ≡ pick P.WEAK_SYMBOLS_OVERRIDE_COMMON (unshared_in (name_table_of (seen self.now)) symbol) }
-        ensures within { IfSome result (λ id. id < length (symbol_names (seen self.now))) }
-    {
-        pick_unshared(self.files(), self.mapping.later_definitions(symbol))
     }
 }

@@ -9,14 +9,14 @@ use Rattle.link_input.specs.declared.world.StubSymbol.{StubSymbol}
 use Rattle.link_input.specs.Entries.{is_undefined}
 use Rattle.link_input.specs.InputFiles.{InputFile, prelude, object, linker_script, stub_library, synthetic}
 use Rattle.link_input.specs.ObjectFile.{ObjectFile}
-use Rattle.link_input.specs.Symbols.{Origin, Symbol, entry_passes, file_symbols, in_object, in_prelude, in_script, in_stub, object_in, object_symbol, stub_strength, symbol_of, visibility_in}
+use Rattle.link_input.specs.Symbols.{Origin, Symbol, entry_in, entry_passes, file_symbols, in_object, in_prelude, in_script, in_stub, object_in, object_symbol, stub_strength, symbol_of, visibility_in}
 use Rattle.std.specs.Borrow.{Bor}
 use Rattle.link_input_groups.specs.declared.sequenced.SequencedInputObject.{SequencedInputObject}
 use Rattle.link_input_groups.specs.declared.sequenced_input.SequencedInput.{SequencedInput}
 use Rattle.link_input_groups.specs.declared.sequenced_input.SequencedInput.TheVariants as input
 use Rattle.link_input_groups.specs.SequencedInputs.{sequenced_file}
 use Rattle.link_db_files.specs.Inputs.{object_of}
-use Rattle.link_db_files.specs.Origins.{definition_in, entry_in}
+use Rattle.link_db_files.specs.Origins.{definition_in}
 
 -- the entry of an object's symbol
 abbrev pub entry_at : InputFile → ℕ → Option SymbolEntry
@@ -108,15 +108,9 @@ visibility-of-entry (Some x) = by-origin x.origin
     by-origin (in_stub strength) = refl
 
 -- a symbol is undefined as its entry is
-pub undefined-of-entry : (o : Option Symbol) → option_map_or (λ (e : SymbolEntry). is_undefined e.place) (option_and_then (λ (x : Symbol). entry_in x.origin) o) false ≡ option_map_or (λ (x : Symbol). entry_passes (λ (e : SymbolEntry). is_undefined e.place) false x.origin) o false
+pub undefined-of-entry : (o : Option Symbol) → option_map_or (λ (e : SymbolEntry). is_undefined e.place) (option_and_then (λ (x : Symbol). entry_in x.origin) o) false ≡ option_map_or (λ (x : Symbol). entry_passes (λ (e : SymbolEntry). is_undefined e.place) x.origin) o false
 undefined-of-entry None = refl
-undefined-of-entry (Some x) = by-origin x.origin
-  where
-    by-origin : (o : Origin) → option_map_or (λ (e : SymbolEntry). is_undefined e.place) (entry_in o) false ≡ entry_passes (λ (e : SymbolEntry). is_undefined e.place) false o
-    by-origin (in_prelude d) = refl
-    by-origin (in_object n shared e) = refl
-    by-origin (in_script d) = refl
-    by-origin (in_stub strength) = refl
+undefined-of-entry (Some x) = refl
 
 -- a file that is no object has no entry
 pub no-entry : {P : Type 0} (i : SequencedInput P) (j : ℕ) → ((o : Bor (SequencedInputObject P)) → i ≡ input.Object o → ⊥) → None ≡ entry_at (sequenced_file i).file j

@@ -11,7 +11,7 @@ use Rattle.link_input_groups.specs.Groups.{files_of}
 
 -- it is undefined in its object and isn't local: among undefined entries only the null entry is (ELF gABI, "Symbol Table", index 0)
 abbrev pub is_asking : Symbol → Bool
-is_asking x = entry_passes (λ e. is_undefined e.place && not (is_local e.binding)) false x.origin
+is_asking x = entry_passes (λ e. is_undefined e.place && not (is_local e.binding)) x.origin
 
 -- the hash number by which the name that it asks for is found, where it asks for one
 abbrev pub asked_number : Symbol → Option ℕ

@@ -8,10 +8,10 @@ use Rattle.link_flags.specs.declared.visibility.Visibility.TheVariants.{Default}
 use Rattle.link_input.specs.declared.internal_symbols.InternalSymDefInfo.{InternalSymDefInfo}
 use Rattle.link_input.specs.declared.symbol_entry.SymbolEntry.{SymbolEntry}
 use Rattle.link_input.specs.Entries.{is_undefined}
-use Rattle.link_input.specs.Symbols.{binding_strength, entry_passes, is_shared, object_in, visibility_in}
+use Rattle.link_input.specs.Symbols.{binding_strength, entry_in, entry_passes, is_shared, object_in, visibility_in}
 use Rattle.link_input_groups.specs.declared.group.Group.{Group}
 use Rattle.link_db_files.specs.GroupFiles.{symbols_in}
-use Rattle.link_db_files.specs.Origins.{definition_in, entry_in}
+use Rattle.link_db_files.specs.Origins.{definition_in}
 
 -- the files of a link in their groups, and the names of the symbols that the linker added behind those of all files
 pub record HeldFiles (P : Type 0) : Type 0 where
@@ -52,4 +52,4 @@ visibility_of held id = option_map_or (λ x. visibility_in x.origin) (slice_get 
 
 -- the symbol stands in an object that doesn't define it
 abbrev pub is_undefined_in : {P : Type 0} → HeldFiles P → ℕ → Bool
-is_undefined_in held id = option_map_or (λ x. entry_passes (λ e. is_undefined e.place) false x.origin) (slice_get (symbols_in held.groups) id) false
+is_undefined_in held id = option_map_or (λ x. entry_passes (λ e. is_undefined e.place) x.origin) (slice_get (symbols_in held.groups) id) false

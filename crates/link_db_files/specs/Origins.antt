@@ -1,15 +1,7 @@
 -- What the origin of a symbol holds.
 use Rattle.std.specs.Prelude.{Option, Some, None}
 use Rattle.link_input.specs.declared.internal_symbols.InternalSymDefInfo.{InternalSymDefInfo}
-use Rattle.link_input.specs.declared.symbol_entry.SymbolEntry.{SymbolEntry}
 use Rattle.link_input.specs.Symbols.{Origin, in_prelude, in_object, in_script, in_stub}
-
--- the entry of a symbol of an object
-abbrev pub entry_in : Origin → Option SymbolEntry
-entry_in (in_prelude d) = None
-entry_in (in_object n shared e) = Some e
-entry_in (in_script d) = None
-entry_in (in_stub strength) = None
 
 -- the definition of a symbol of the prelude
 abbrev pub definition_in : Origin → Option InternalSymDefInfo

@@ -1,6 +1,6 @@
 //! The names that symbols ask for, by their hash numbers.
 
-ghost use Rattle.std.specs.Prelude.{◌≡◌, ◌++◌, IfOk, None, OnOk, map, option_map, replicate};
+ghost use Rattle.std.specs.Prelude.{◌≡◌, ◌++◌, IfOk, None, OnOk, map, replicate};
 ghost use Rattle.link_db_files.specs.Asked.{entry_asked, file_asked, group_asked, groups_asked};
 ghost use Rattle.link_input_groups.specs.SequencedInputs.{sequenced_file};
 
@@ -10,22 +10,12 @@ use link_input::{InputObject, Platform, SymbolRow};
 use link_input_groups::{Group, SequencedInput};
 use std::alloc::{AllocError, Global};
 
-/// The version of an entry, where it has one.
-fn version_of<'a>(row: &'a SymbolRow<'_>) -> Option<&'a [u8]>
-    ensures { option_map (λ v. v.now) result ≡ row.now.version }
-{
-    match row.version() {
-        Some(version) => Some(version.as_slice()),
-        None => None,
-    }
-}
-
 /// The hash number of the name, or of the name and version, that an entry asks for: one that is undefined and isn't local asks for one.
 fn entry_asked(row: &SymbolRow) -> Option<u64>
     ensures { result ≡ entry_asked row.now }
 {
     if row.is_undefined() && !row.is_local() {
-        Some(key_hash(row.name().as_slice(), version_of(row)))
+        Some(key_hash(row.name().as_slice(), row.version_bytes()))
     } else {
         None
     }

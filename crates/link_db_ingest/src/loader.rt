@@ -1,7 +1,5 @@
 //! What reads the symbols of objects.
 
-ghost use Rattle.std.specs.Prelude.{◌≡◌, option_map};
-
 use crate::listing::listing_of_row;
 use crate::read_symbols::ReadSymbols;
 use link_db_texts::{TextRules, flags_of_row};
@@ -11,16 +9,6 @@ use link_input::{OutputKind, Platform, SymbolRow};
 use link_input_groups::SequencedInputObject;
 use link_script::Demangler;
 use std::alloc::AllocError;
-
-/// The version behind an `@` of the name.
-fn version_of<'a>(row: &'a SymbolRow<'_>) -> Option<&'a [u8]>
-    ensures { option_map (λ v. v.now) result ≡ row.now.version }
-{
-    match row.version() {
-        Some(version) => Some(version.as_slice()),
-        None => None,
-    }
-}
 
 /// What reads the symbols of the objects of one kind on a platform. Mirrors Wild's `SymbolLoader`.
 pub trait SymbolLoader<P: Platform> {
@@ -61,7 +49,7 @@ pub trait SymbolLoader<P: Platform> {
         let flags = self.compute_value_flags(row);
         let listing = listing_of_row(self.should_ignore_symbol(row), row);
         let name = row.name().as_slice();
-        read.add_symbol(id, name, version_of(row), flags, listing)
+        read.add_symbol(id, name, row.version_bytes(), flags, listing)
     }
 
     /// Adds the symbols of an object. Its only refusal is want of memory.

@@ -7,6 +7,7 @@ ghost use Rattle.link_rules.specs.Selection.{is_discarded_place, surviving_origi
 
 use crate::all_symbols::symbols;
 use crate::view::{SymbolOrigin, SymbolView};
+use link_closure::is_marked;
 use link_db_files::Files;
 use link_flags::SymbolStrength;
 use link_input::{Platform, SymbolRow};
@@ -23,16 +24,6 @@ pub trait DiscardedSections {
     /// Whether the section of the object is the header or a member of a discarded group.
     fn is_discarded(&self, object: usize, section: u32) -> bool
         ensures { result ≡ is_discarded_by (discarded self.now) object section };
-}
-
-/// Whether the object is loaded.
-fn is_loaded(loaded: &[bool], object: usize) -> bool
-    ensures { result ≡ is_marked loaded.now object }
-{
-    match loaded.get(object) {
-        Some(is_loaded) => *is_loaded,
-        None => false,
-    }
 }
 
 /// Whether an entry of the object stands in a discarded section.
@@ -55,7 +46,7 @@ fn surviving_strength<D: DiscardedSections>(
 {
     match symbol.origin() {
         SymbolOrigin::Object { place, row, .. } => {
-            if is_loaded(loaded, *place) && !is_in_discarded(discarded, *place, row) {
+            if is_marked(loaded, *place) && !is_in_discarded(discarded, *place, row) {
                 row.strength()
             } else {
                 SymbolStrength::Undefined

@@ -1,9 +1,9 @@
 //! A symbol of a link, as its file lends it.
 
 ghost use Rattle.std.specs.Prelude.{◌≡◌, ◌&&◌, false, not, option_map, option_and_then};
-ghost use Rattle.link_db_files.specs.Origins.{definition_in, entry_in};
+ghost use Rattle.link_db_files.specs.Origins.{definition_in};
 ghost use Rattle.link_input.specs.Entries.{is_local, is_undefined, section_of};
-ghost use Rattle.link_input.specs.Symbols.{binding_strength, entry_passes, is_shared, object_in, visibility_in};
+ghost use Rattle.link_input.specs.Symbols.{binding_strength, entry_in, entry_passes, is_shared, object_in, visibility_in};
 ghost use Rattle.link_rules.specs.Loading.{is_forced_placement};
 ghost use Rattle.link_rules.specs.Rivals.{is_forced};
 ghost use Rattle.link_rules.specs.Targets.{is_open};
@@ -188,7 +188,7 @@ impl<'a> SymbolView<'a> {
 
     /// It stands in an object that doesn't define it.
     fn is_undefined(&self) -> bool
-        ensures { result ≡ entry_passes (λ e. is_undefined e.place) false self.now.origin }
+        ensures { result ≡ entry_passes (λ e. is_undefined e.place) self.now.origin }
     {
         match &self.origin {
             SymbolOrigin::Object { row, .. } => row.is_undefined(),
@@ -198,7 +198,7 @@ impl<'a> SymbolView<'a> {
 
     /// It is an undefined symbol of an object that isn't local.
     fn is_undefined_beyond(&self) -> bool
-        ensures { result ≡ entry_passes (λ e. is_undefined e.place && not (is_local e.binding)) false self.now.origin }
+        ensures { result ≡ entry_passes (λ e. is_undefined e.place && not (is_local e.binding)) self.now.origin }
     {
         match &self.origin {
             SymbolOrigin::Object { row, .. } => row.is_undefined() && !row.is_local(),

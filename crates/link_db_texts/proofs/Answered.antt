@@ -23,6 +23,7 @@ use Rattle.link_flags.specs.FlagBits.{downgrade_to_local}
 use Rattle.link_input.specs.declared.options.OutputKind.{OutputKind}
 use Rattle.link_input.specs.declared.symbol_entry.SymbolEntry.{SymbolEntry}
 use Rattle.link_input.specs.Entries.{is_local, is_undefined}
+use Rattle.link_script_syntax.specs.declared.profile.ScriptProfile.{ScriptProfile}
 use Rattle.link_rules.specs.Opening.{is_non_interposable, script_flags}
 use Rattle.link_rules.specs.World.{Stage}
 use Rattle.link_rules.specs.Places.{Bytes}
@@ -50,31 +51,31 @@ listing_some true entries required list is = (refl, is)
 listing_some false entries required list is = absurd is
 
 -- where there is no text of a script of versions, no name is local
-none_local : (demangle : Bytes → Bytes) (text : Option Bytes) (name : Bytes) → is_some text ≡ false → is_local_by (script_of text) (asked demangle name) ≡ false
-none_local demangle None name e = refl
-none_local demangle (Some text) name e = absurd cc
+none_local : (profile : ScriptProfile) (demangle : Bytes → Bytes) (text : Option Bytes) (name : Bytes) → is_some text ≡ false → is_local_by (script_of profile text) (asked demangle name) ≡ false
+none_local profile demangle None name e = refl
+none_local profile demangle (Some text) name e = absurd cc
 
 -- ---- answers
 
 module _ (platform : PlatformRules) (demangle : Bytes → Bytes) (read : ReadTexts) (rules : Rules) (are : AreRulesOf platform demangle read rules) where
   -- what the text says that was taken
   raw : RawScript
-  raw = script_of (taken_text are.texts are.scripts)
+  raw = script_of are.options.script_profile (taken_text are.texts are.scripts)
 
   -- the names that the text of an export list has
   names : ListedNames
-  names = list_of platform are.texts.export_list
+  names = list_of platform are.options.script_profile are.texts.export_list
 
   -- the list that was read
   list_is : (list : Option ExportList) → read.list ≡ list
       → IsListIf (is_listing are.texts.export_list are.options.force_export) (exported_entries names are.options.force_export) names.required list
   unfolding names
-  list_is list is = subst (λ o. IsListRead (list_of platform are.texts.export_list) are.texts.export_list are.options.force_export o) is are.holds.list
+  list_is list is = subst (λ o. IsListRead (list_of platform are.options.script_profile are.texts.export_list) are.texts.export_list are.options.force_export o) is are.holds.list
 
   -- the script that was read
   script_is : (script : VersionScript) → read.script ≡ script → IsScriptOf raw script
   unfolding raw
-  script_is script is = subst (IsScriptOf (script_of (taken_text are.texts are.scripts))) is are.holds.script
+  script_is script is = subst (IsScriptOf (script_of are.options.script_profile (taken_text are.texts are.scripts))) is are.holds.script
 
   -- whether versions make a name local
   pub regular_local : (versions : List Version) (name : Bytes) (answer : Bool) → read.script ≡ Regular versions
@@ -99,7 +100,7 @@ module _ (platform : PlatformRules) (demangle : Bytes → Bytes) (read : ReadTex
   pub untaken_local : (name : Bytes) → read.is_taken ≡ false → false ≡ rules.is_local_name name
   untaken_local name untaken =
       sym (ap (λ (r : Rules). r.is_local_name name) are.same
-      ∙ none_local demangle (taken_text are.texts are.scripts) name (sym are.holds.taken ∙ untaken))
+      ∙ none_local are.options.script_profile demangle (taken_text are.texts are.scripts) name (sym are.holds.taken ∙ untaken))
 
   -- the version of a name
   pub version_is : (name : Bytes) (explicit : Option Bytes) (answer : Result (Option ℕ) Undeclared)

@@ -5,6 +5,7 @@ use Rattle.std.specs.List.{enumerate_from}
 use Rattle.link_input.specs.declared.options.Options.{Options}
 use Rattle.link_input.specs.declared.world.Scripts.{Scripts}
 use Rattle.link_script_syntax.specs.declared.fault.ScriptFault.{ScriptFault}
+use Rattle.link_script_syntax.specs.declared.profile.ScriptProfile.{ScriptProfile}
 use Rattle.link_script_syntax.specs.declared.fault.ScriptFault.TheVariants as faults
 use Rattle.link_rules.specs.declared.refusal.LinkError.{LinkError}
 use Rattle.link_rules.specs.declared.refusal.LinkError.TheVariants.{Script, Memory}
@@ -26,8 +27,8 @@ error_of origin (faults.Text error) = Script origin error
 error_of origin faults.Memory = Memory
 
 -- why the text of an export list is none, on a platform
-abbrev pub list_cause : PlatformRules → Option Bytes → Option LinkError
-list_cause platform text = script_cause ExportList (option_and_then (λ t. fault_in t (platform.read_export_list t)) text)
+abbrev pub list_cause : PlatformRules → ScriptProfile → Option Bytes → Option LinkError
+list_cause platform profile text = script_cause ExportList (option_and_then (λ t. fault_in t (platform.read_export_list profile t)) text)
 
 -- the first forced export name that can't be read
 abbrev pub forced_cause : List Bytes → Option LinkError
@@ -37,4 +38,4 @@ forced_cause forced = first_of (filter_map forced_export_cause (enumerate_from 0
 pub record IsGiven (platform : PlatformRules) (options : Options) (texts : Scripts) (w : World) : Type 0 where
   pub same_options : w.options ≡ options
   pub same_texts : w.texts ≡ texts
-  pub list_fault : w.rules.export_list_fault ≡ (λ text. fault_in text (platform.read_export_list text))
+  pub list_fault : w.rules.export_list_fault ≡ (λ text. fault_in text (platform.read_export_list options.script_profile text))

@@ -5,6 +5,7 @@ use Rattle.link_input.specs.declared.platform.Platform.{Ghosts}
 use Rattle.link_input.specs.declared.world.ProcessedLinkerScript.{ProcessedLinkerScript}
 use Rattle.link_input.specs.declared.world.Scripts.{Scripts}
 use Rattle.link_script_syntax.specs.declared.matcher.ParsedSymbolMatcher.{ParsedSymbolMatcher}
+use Rattle.link_script_syntax.specs.declared.profile.ScriptProfile.{ScriptProfile}
 use Rattle.link_script_syntax.specs.ForcedName.{forced_name}
 use Rattle.link_script.specs.declared.export_list.ExportList.{ExportList}
 use Rattle.link_script.specs.declared.script.VersionScript.{VersionScript}
@@ -47,17 +48,18 @@ abbrev pub IsListRead : ListedNames → Option Bytes → List Bytes → Option E
 IsListRead names text forced list = IsListIf (is_listing text forced) (exported_entries names forced) names.required list
 
 -- the script of a text, if there is one
-abbrev pub IsScriptIf : Option Bytes → Option VersionScript → Type 0
-IsScriptIf None None = Unit {0}
-IsScriptIf (Some text) (Some script) = IsScriptOf (script_of (Some text)) script
-IsScriptIf None (Some script) = ⊥
-IsScriptIf (Some text) None = ⊥
+abbrev pub IsScriptIf : ScriptProfile → Option Bytes → Option VersionScript → Type 0
+IsScriptIf profile None None = Unit {0}
+IsScriptIf profile (Some text) (Some script) = IsScriptOf (script_of profile (Some text)) script
+IsScriptIf profile None (Some script) = ⊥
+IsScriptIf profile (Some text) None = ⊥
 
 -- What was read is what the texts of the options and of these linker scripts say.
 pub record HoldsTexts (platform : PlatformRules) (options : Options) (texts : Scripts) (scripts : List ProcessedLinkerScript) (read : ReadTexts) : Type 0 where
-  pub script : IsScriptOf (script_of (taken_text texts scripts)) read.script
+  pub profile : read.profile ≡ options.script_profile
+  pub script : IsScriptOf (script_of options.script_profile (taken_text texts scripts)) read.script
   pub taken : read.is_taken ≡ is_some (taken_text texts scripts)
-  pub list : IsListRead (list_of platform texts.export_list) texts.export_list options.force_export read.list
+  pub list : IsListRead (list_of platform options.script_profile texts.export_list) texts.export_list options.force_export read.list
 
 -- These are the rules of a link of which this was read, where names demangle so.
 pub record AreRulesOf (platform : PlatformRules) (demangle : Bytes → Bytes) (read : ReadTexts) (rules : Rules) : Type 0 where

@@ -1,12 +1,14 @@
 -- What is kept of the texts of a link, once they are read.
 use Rattle.std.specs.Prelude.{◌≡◌, ℕ, Bool, List, [], Option, Some, None}
+use Rattle.link_script_syntax.specs.declared.profile.ScriptProfile.{ScriptProfile}
 use Rattle.link_names.specs.Names.{Names, is_member, has_name}
 use Rattle.link_script.specs.declared.export_list.ExportList.{ExportList}
 use Rattle.link_script.specs.declared.script.VersionScript.{VersionScript}
 use Rattle.link_script.specs.declared.script.VersionScript.TheVariants.{Regular, Rust}
 
--- the version script, whether a text of one was given, and the list of exported names
+-- the profile in which texts are read, the version script, whether a text of one was given, and the list of exported names
 pub record ReadTexts : Type 0 where
+  pub profile : ScriptProfile
   pub script : VersionScript
   pub is_taken : Bool
   pub list : Option ExportList

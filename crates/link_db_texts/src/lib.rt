@@ -12,4 +12,5 @@ mod texts;
 pub use opening::{
     flags_of_definition, flags_of_row, flags_of_script_symbol, flags_of_stub_symbol,
 };
+pub use reading::given_script;
 pub use texts::{TakenScript, TextRules};

@@ -3,6 +3,7 @@
 ghost use Rattle.std.specs.Prelude.{◌≡◌, ◌++◌, ◌∷◌, [], List, None, Some, IfOk, OnOk, option_and_then};
 ghost use Rattle.link_names.specs.Names.{has_name};
 ghost use Rattle.link_script_syntax.specs.declared.matcher.ParsedSymbolMatcher.{ParsedSymbolMatcher};
+ghost use Rattle.link_script_syntax.specs.declared.script.RawScript.{RawScript};
 ghost use Rattle.link_script.specs.ExportList.{IsListOf};
 ghost use Rattle.link_script.specs.ListedNames.{IsListNamed};
 ghost use Rattle.link_script.specs.Script.{IsScriptOf};
@@ -17,7 +18,7 @@ use link_input::Platform;
 use link_names::{Name, NameSet, Seq};
 use link_rules::{LinkError, ScriptOrigin};
 use link_script::{ExportList, RegularVersionScript, VersionScript};
-use link_script_syntax::ScriptFault;
+use link_script_syntax::{ScriptFault, ScriptProfile};
 use std::alloc::{AllocError, Global};
 
 /// A fault of a text, as the error of a link.
@@ -30,16 +31,17 @@ fn error_of(origin: ScriptOrigin, fault: ScriptFault) -> LinkError
     }
 }
 
-/// The version script of a text.
+/// The version script of a text, in a profile.
 pub fn read_script(
     alloc: Global,
     origin: ScriptOrigin,
     text: &[u8],
+    profile: ScriptProfile,
 ) -> Result<VersionScript, LinkError>
-    ensures cause { TellsCause (script_cause origin (version_script_fault text.now)) result }
-    ensures script { IfOk result (λ script. IsScriptOf (script_of (Some text.now)) script) }
+    ensures cause { TellsCause (script_cause origin (version_script_fault profile text.now)) result }
+    ensures script { IfOk result (λ script. IsScriptOf (script_of profile (Some text.now)) script) }
 {
-    match VersionScript::parse(alloc, text) {
+    match VersionScript::parse(alloc, text, profile) {
         Ok(script) => Ok(script),
         Err(fault) => Err(error_of(origin, fault)),
     }
@@ -47,40 +49,53 @@ pub fn read_script(
 
 /// The script that stands where no text of one is given: the base version alone.
 fn no_script(alloc: Global) -> Result<VersionScript, AllocError>
-    ensures { IfOk result (λ script. IsScriptOf (script_of None) script) }
+    ensures { IfOk result (λ script. IsScriptOf (RawScript.Named []) script) }
 {
     Ok(VersionScript::Regular(RegularVersionScript::from_named(alloc, Seq::new(alloc))?))
 }
 
-/// The version script of the options.
-pub fn given_script(alloc: Global, text: &Option<Name>) -> Result<VersionScript, LinkError>
-    ensures cause { TellsCause (script_cause ScriptOrigin.VersionScript (option_and_then version_script_fault text.now)) result }
-    ensures script { IfOk result (λ script. IsScriptOf (script_of text.now) script) }
+/// The version script of a link's options, read in a profile; that of the base version alone, where none is given. A text that is none
+/// is refused with its first fault.
+pub fn given_script(
+    alloc: Global,
+    text: &Option<Name>,
+    profile: ScriptProfile,
+) -> Result<VersionScript, LinkError>
+    ensures cause { TellsCause (script_cause ScriptOrigin.VersionScript (option_and_then (version_script_fault profile) text.now)) result }
+    ensures script { IfOk result (λ script. IsScriptOf (script_of profile text.now) script) }
 {
     match text {
-        Some(text) => read_script(alloc, ScriptOrigin::VersionScript, text.as_slice()),
+        Some(text) => read_script(alloc, ScriptOrigin::VersionScript, text.as_slice(), profile),
         None => Ok(no_script(alloc)?),
     }
 }
 
 /// The export list of a text.
-fn read_list<P: Platform>(alloc: Global, text: &[u8]) -> Result<ExportList, LinkError>
-    ensures cause { TellsCause (list_cause (platform_of P.Platform) (Some text.now)) result }
-    ensures list { IfOk result (λ list. IsListNamed (list_of (platform_of P.Platform) (Some text.now)) list) }
+fn read_list<P: Platform>(
+    alloc: Global,
+    text: &[u8],
+    profile: ScriptProfile,
+) -> Result<ExportList, LinkError>
+    ensures cause { TellsCause (list_cause (platform_of P.Platform) profile (Some text.now)) result }
+    ensures list { IfOk result (λ list. IsListNamed (list_of (platform_of P.Platform) profile (Some text.now)) list) }
 {
-    match P::parse_export_list(alloc, text) {
+    match P::parse_export_list(alloc, text, profile) {
         Ok(list) => Ok(list),
         Err(fault) => Err(error_of(ScriptOrigin::ExportList, fault)),
     }
 }
 
 /// The export list of the options, and one of no names where none is given.
-fn given_list<P: Platform>(alloc: Global, text: &Option<Name>) -> Result<ExportList, LinkError>
-    ensures cause { TellsCause (list_cause (platform_of P.Platform) text.now) result }
-    ensures list { IfOk result (λ list. IsListNamed (list_of (platform_of P.Platform) text.now) list) }
+fn given_list<P: Platform>(
+    alloc: Global,
+    text: &Option<Name>,
+    profile: ScriptProfile,
+) -> Result<ExportList, LinkError>
+    ensures cause { TellsCause (list_cause (platform_of P.Platform) profile text.now) result }
+    ensures list { IfOk result (λ list. IsListNamed (list_of (platform_of P.Platform) profile text.now) list) }
 {
     match text {
-        Some(text) => read_list::<P>(alloc, text.as_slice()),
+        Some(text) => read_list::<P>(alloc, text.as_slice(), profile),
         None => Ok(ExportList::empty(alloc)),
     }
 }
@@ -111,13 +126,14 @@ pub fn exported_list<P: Platform>(
     alloc: Global,
     text: &Option<Name>,
     forced: &[Name],
+    profile: ScriptProfile,
 ) -> Result<Option<ExportList>, LinkError>
-    ensures cause { TellsCause (first_cause (list_cause (platform_of P.Platform) text.now
+    ensures cause { TellsCause (first_cause (list_cause (platform_of P.Platform) profile text.now
         ∷ forced_cause forced.now ∷ [])) result }
-    ensures list { IfOk result (λ list. IsListRead (list_of (platform_of P.Platform) text.now)
+    ensures list { IfOk result (λ list. IsListRead (list_of (platform_of P.Platform) profile text.now)
         text.now forced.now list) }
 {
-    let mut list = given_list::<P>(alloc, text)?;
+    let mut list = given_list::<P>(alloc, text, profile)?;
     add_forced(&mut list, forced)?;
     if is_listing(text, forced) {
         Ok(Some(list))

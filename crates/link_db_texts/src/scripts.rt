@@ -13,6 +13,7 @@ use link_input::ProcessedLinkerScript;
 use link_names::Name;
 use link_rules::{LinkError, ScriptOrigin};
 use link_script::VersionScript;
+use link_script_syntax::ScriptProfile;
 use std::alloc::Global;
 
 /// The version script of the linker script at this place, where none was taken before, and its batch is the first.
@@ -22,9 +23,10 @@ fn script_text(
     is_taken: bool,
     place: usize,
     text: &Name,
+    profile: ScriptProfile,
 ) -> Result<VersionScript, LinkError>
-    ensures cause { TellsCause (version_text_cause is_late is_taken place text.now) result }
-    ensures script { IfOk result (λ script. IsScriptOf (script_of (Option.Some text.now)) script) }
+    ensures cause { TellsCause (version_text_cause profile is_late is_taken place text.now) result }
+    ensures script { IfOk result (λ script. IsScriptOf (script_of profile (Option.Some text.now)) script) }
 {
     if is_taken {
         return Err(LinkError::MultipleVersionScripts(place));
@@ -32,7 +34,12 @@ fn script_text(
     if is_late {
         return Err(LinkError::LateVersionScript(place));
     }
-    read_script(alloc, ScriptOrigin::LinkerScript(place), text.as_slice())
+    read_script(
+        alloc,
+        ScriptOrigin::LinkerScript(place),
+        text.as_slice(),
+        profile,
+    )
 }
 
 /// Whether a script was taken before, of an earlier batch or of this one.
@@ -49,16 +56,17 @@ pub fn batch_script(
     is_taken: bool,
     first: usize,
     scripts: &[ProcessedLinkerScript],
+    profile: ScriptProfile,
 ) -> Result<Option<VersionScript>, LinkError>
     requires { first + length scripts.now < 2 ^ 64 }
-    ensures cause { TellsCause (linker_script_cause is_late is_taken first scripts.now) result }
-    ensures script { IfOk result (λ script. IsScriptIf (first_of (filter_map (λ s. s.version) scripts.now)) script) }
+    ensures cause { TellsCause (linker_script_cause profile is_late is_taken first scripts.now) result }
+    ensures script { IfOk result (λ script. IsScriptIf profile (first_of (filter_map (λ s. s.version) scripts.now)) script) }
 {
     let mut taken = None;
     for (i, script) in scripts.iter().enumerate() {
         if let Some(text) = &script.version {
             let is_second = is_second(is_taken, &taken);
-            let script = script_text(alloc, is_late, is_second, first + i, text)?;
+            let script = script_text(alloc, is_late, is_second, first + i, text, profile)?;
             taken = Some(script);
         }
     }

@@ -19,6 +19,7 @@ use link_input::{Options, Platform, ProcessedLinkerScript, Scripts};
 use link_names::{Name, NameSet};
 use link_rules::LinkError;
 use link_script::{Demangler, ExportList, UndefinedVersion, VersionScript};
+use link_script_syntax::ScriptProfile;
 use std::alloc::{AllocError, Global};
 use std::marker::{Model, PhantomData};
 use std::mem;
@@ -26,6 +27,7 @@ use std::mem;
 /// What the texts of a link on a platform say of names: its version script, and its export list with the forced export names.
 /// A contract sees what was read. Mirrors what Wild's `SymbolDb` keeps of them.
 pub struct TextRules<P: Platform> {
+    profile: ScriptProfile,
     version_script: VersionScript,
     /// The names of a script of the Rust form, to be looked up.
     listed: NameSet,
@@ -39,6 +41,7 @@ pub struct TextRules<P: Platform> {
 impl<P: Platform> Drop for TextRules<P> {
     fn drop(self) {
         let Self {
+            profile: _,
             version_script: _,
             listed: _,
             is_taken: _,
@@ -53,7 +56,7 @@ impl<P: Platform> Model for TextRules<P> {
 
     ghost Value = { ReadTexts };
 
-    ghost view = { λ t. record { script = t.version_script; is_taken = t.is_taken; list = t.export_list } };
+    ghost view = { λ t. record { profile = t.profile; script = t.version_script; is_taken = t.is_taken; list = t.export_list } };
 
     ghost invariant = { λ t. HasNames (names_in t.version_script) t.listed };
 }
@@ -95,11 +98,13 @@ impl<P: Platform> TextRules<P> {
         ensures cause { (w : World) → IsGiven (platform_of P.Platform) options.now texts.now w → TellsCause (text_refusal w) result }
         ensures holds { IfOk result (λ rules. HoldsTexts (platform_of P.Platform) options.now texts.now [] rules) }
     {
-        let version_script = given_script(alloc, &texts.version_script)?;
+        let profile = options.script_profile;
+        let version_script = given_script(alloc, &texts.version_script, profile)?;
         let forced = options.force_export.as_slice();
-        let export_list = exported_list::<P>(alloc, &texts.export_list, forced)?;
+        let export_list = exported_list::<P>(alloc, &texts.export_list, forced, profile)?;
         let listed = listed_names(alloc, &version_script)?;
         Ok(TextRules {
+            profile,
             version_script,
             listed,
             is_taken: texts.version_script.is_some(),
@@ -119,13 +124,13 @@ impl<P: Platform> TextRules<P> {
         scripts: &[ProcessedLinkerScript],
     ) -> Result<Option<TakenScript>, LinkError>
         requires { first + length scripts.now < 2 ^ 64 }
-        ensures cause { TellsCause (linker_script_cause is_late self.now.is_taken first scripts.now) result }
+        ensures cause { TellsCause (linker_script_cause self.now.profile is_late self.now.is_taken first scripts.now) result }
         ensures holds { IfOk result (λ taken. (options : Options) (texts : Scripts) (before : List ProcessedLinkerScript)
             → HoldsTexts (platform_of P.Platform) options texts before self.now
             → HoldsTexts (platform_of P.Platform) options texts (before ++ scripts.now) (with_taken taken self.now)) }
         ensures late { IsTrue is_late → IfOk result (λ taken. taken ≡ None) }
     {
-        match batch_script(alloc, is_late, self.is_taken, first, scripts)? {
+        match batch_script(alloc, is_late, self.is_taken, first, scripts, self.profile)? {
             Some(script) => {
                 let listed = listed_names(alloc, &script)?;
                 Ok(Some(TakenScript {

@@ -50,7 +50,8 @@ fn write_target<P: Platform>(
 }
 
 /// A name as it is looked up, and its hash number.
-fn write_key(text: &mut String, key: &SymbolKey<'_>) -> Result<(), AllocError> {
+fn write_key(text: &mut String, name: &[u8]) -> Result<(), AllocError> {
+    let key = SymbolKey::new(name, None);
     let name = NameView::new(key.name());
     let hash = key.hash();
     write!(text, "{name} {hash:016x}")
@@ -181,6 +182,16 @@ fn mapped_names<P: Platform>(alloc: Global, db: &SymbolDb<P>) -> Result<Vec<Name
     Ok(names)
 }
 
+/// So many names, and each of them.
+fn write_list(text: &mut String, names: &[Name]) -> Result<(), AllocError> {
+    let count = names.len();
+    write!(text, "{count}:")?;
+    for name in names {
+        write!(text, " {name};")?;
+    }
+    Ok(())
+}
+
 /// The names that are mapped, each with its symbol.
 fn write_names<P: Platform>(
     alloc: Global,
@@ -188,12 +199,7 @@ fn write_names<P: Platform>(
     db: &SymbolDb<P>,
 ) -> Result<(), AllocError> {
     let names = mapped_names(alloc, db)?;
-    let count = names.len();
-    write!(text, "{count}:")?;
-    for name in &names {
-        write!(text, " {name};")?;
-    }
-    Ok(())
+    write_list(text, &names)
 }
 
 /// What the texts of the link say.
@@ -233,16 +239,17 @@ fn answer_of_all<P: Platform>(
     link: &Link<P>,
     word: &[u8],
 ) -> Result<bool, AllocError> {
-    match word {
-        b"flags" => write_flags(text, link)?,
-        b"counts" => write_counts(text, &link.db)?,
-        b"held" => write_held(text, &link.db)?,
-        b"groups" => write_groups(text, &link.db)?,
-        b"names" => write_names(alloc, text, &link.db)?,
-        b"rules" => write_rules(text, &link.db)?,
-        b"entry" => write_entry(text, &link.db)?,
+    let written = match word {
+        b"flags" => write_flags(text, link),
+        b"counts" => write_counts(text, &link.db),
+        b"held" => write_held(text, &link.db),
+        b"groups" => write_groups(text, &link.db),
+        b"names" => write_names(alloc, text, &link.db),
+        b"rules" => write_rules(text, &link.db),
+        b"entry" => write_entry(text, &link.db),
         _ => return Ok(false),
-    }
+    };
+    written?;
     Ok(true)
 }
 
@@ -253,14 +260,15 @@ fn answer_of_name<P: Platform>(
     word: &[u8],
     name: &[u8],
 ) -> Result<bool, AllocError> {
-    match word {
-        b"get" => write_target(text, db, name, true)?,
-        b"hidden" => write_target(text, db, name, false)?,
-        b"plain" => write_symbol(text, db.get_unversioned(name))?,
-        b"mangled" => write_symbol(text, db.find_mangled_name(&OneName, name))?,
-        b"hash" => write_key(text, &SymbolKey::new(name, None))?,
+    let written = match word {
+        b"get" => write_target(text, db, name, true),
+        b"hidden" => write_target(text, db, name, false),
+        b"plain" => write_symbol(text, db.get_unversioned(name)),
+        b"mangled" => write_symbol(text, db.find_mangled_name(&OneName, name)),
+        b"hash" => write_key(text, name),
         _ => return Ok(false),
-    }
+    };
+    written?;
     Ok(true)
 }
 
@@ -273,15 +281,16 @@ fn answer_of_symbol<P: Platform>(
 ) -> Result<bool, Fault> {
     let db = &link.db;
     let id = symbol_of(db, symbol)?;
-    match word {
-        b"tell" => write_row(text, db, id)?,
-        b"file" => write_file(text, db, id)?,
-        b"means" => write_meaning(text, link, id)?,
-        b"debug" => write!(text, "{}", db.symbol_debug(&link.flags, id))?,
-        b"shown" => write!(text, "{}", db.symbol_name_for_display(id, &OneName))?,
-        b"prelude" => write_prelude(text, db, id)?,
+    let written = match word {
+        b"tell" => write_row(text, db, id),
+        b"file" => write_file(text, db, id),
+        b"means" => write_meaning(text, link, id),
+        b"debug" => write!(text, "{}", db.symbol_debug(&link.flags, id)),
+        b"shown" => write!(text, "{}", db.symbol_name_for_display(id, &OneName)),
+        b"prelude" => write_prelude(text, db, id),
         _ => return Ok(false),
-    }
+    };
+    written?;
     Ok(true)
 }
 

@@ -1,7 +1,6 @@
 //! Why the cases can't be gone through.
 
 use std::alloc::{AllocError, AllocFailed};
-use std::io;
 use thiserror::Error;
 
 /// Why what a line says can't be done.
@@ -9,10 +8,8 @@ use thiserror::Error;
 pub enum Fault {
     #[error("memory ran out")]
     Memory,
-    #[error("a stream or the clock fails")]
+    #[error("a stream fails")]
     Stream,
-    #[error("usage: db SYMBOLS OBJECTS WORKERS, or map SYMBOLS OBJECTS WORKERS")]
-    Usage,
     #[error("no case of a platform, with a line `new`")]
     Case,
     #[error("no such line")]
@@ -46,11 +43,5 @@ impl From<AllocError> for Fault {
 impl<T: Drop> From<AllocFailed<T>> for Fault {
     fn from(_: AllocFailed<T>) -> Self {
         Fault::Memory
-    }
-}
-
-impl From<io::Error> for Fault {
-    fn from(_: io::Error) -> Self {
-        Fault::Stream
     }
 }

@@ -2,11 +2,14 @@
 
 use crate::definitions::definition_of;
 use crate::fault::Fault;
-use crate::words::{key_and_value, listed, name_and_version, number_of, unescaped};
+use crate::words::{
+    first_and_rest, key_and_value, name_and_version, number_of, only, set_name, set_names,
+    unescaped,
+};
 use link_flags::Visibility;
 use link_input::{
-    InputObject, Inputs, InternalSymDefInfo, Modifiers, ObjectTable, ParsedInputObject, Place,
-    Platform, ProcessedLinkerScript, StubLibrary, SymbolBinding, SymbolEntry, SymbolKind,
+    InputObject, Inputs, Modifiers, ObjectTable, ParsedInputObject, Place, Platform,
+    ProcessedLinkerScript, StubLibrary, SymbolBinding, SymbolEntry, SymbolKind,
 };
 use link_names::{Name, Seq};
 use std::alloc::Global;
@@ -28,8 +31,7 @@ pub struct Gathered {
 }
 
 /// An entry without a name, which stands nowhere and is local.
-/// Its fields are left open: only the cases look at them.
-pub fn null_entry(alloc: Global) -> SymbolEntry {
+fn null_entry(alloc: Global) -> SymbolEntry {
     SymbolEntry {
         name: Name::new(Vec::new(alloc)),
         version: None,
@@ -92,8 +94,7 @@ fn entry_of(alloc: Global, name: &[u8], words: &[&[u8]]) -> Result<SymbolEntry, 
 }
 
 /// An object of one section with these symbols, which is loaded in any case.
-/// Its fields are left open: only the cases and the benchmark look at them.
-pub fn object_with(alloc: Global, input: Name, symbols: Seq<SymbolEntry>) -> TableOf {
+fn object_with(alloc: Global, input: Name, symbols: Seq<SymbolEntry>) -> TableOf {
     TableOf {
         input,
         modifiers: Modifiers {
@@ -111,6 +112,27 @@ pub fn object_with(alloc: Global, input: Name, symbols: Seq<SymbolEntry>) -> Tab
     }
 }
 
+/// Sets what a word says of an object.
+fn set_object(object: &mut TableOf, word: &[u8]) -> Result<(), Fault> {
+    match word {
+        b"dynamic" => object.table.is_dynamic = true,
+        b"archive" => object.modifiers.archive = true,
+        b"whole" => object.modifiers.whole_archive = true,
+        b"as_needed" => object.modifiers.as_needed = true,
+        _ => return Err(Fault::Word),
+    }
+    Ok(())
+}
+
+/// The null entry, where the platform has one.
+fn null_entries(alloc: Global, has_null: bool) -> Result<Seq<SymbolEntry>, Fault> {
+    let mut symbols = Seq::new(alloc);
+    if has_null {
+        symbols.push(null_entry(alloc))?;
+    }
+    Ok(symbols)
+}
+
 /// An object without symbols, but for the null entry where the platform has one.
 fn object_of(
     alloc: Global,
@@ -118,54 +140,57 @@ fn object_of(
     name: &[u8],
     words: &[&[u8]],
 ) -> Result<TableOf, Fault> {
-    let mut symbols = Seq::new(alloc);
-    if has_null {
-        symbols.push(null_entry(alloc))?;
-    }
+    let symbols = null_entries(alloc, has_null)?;
     let mut object = object_with(alloc, unescaped(alloc, name)?, symbols);
     for word in words {
-        match *word {
-            b"dynamic" => object.table.is_dynamic = true,
-            b"archive" => object.modifiers.archive = true,
-            b"whole" => object.modifiers.whole_archive = true,
-            b"as_needed" => object.modifiers.as_needed = true,
-            _ => return Err(Fault::Word),
-        }
+        set_object(&mut object, word)?;
     }
     Ok(object)
 }
 
+/// Sets what a word says of a linker script.
+fn set_script(alloc: Global, script: &mut ProcessedLinkerScript, word: &[u8]) -> Result<(), Fault> {
+    match key_and_value(word) {
+        Some((b"entry", value)) => set_name(alloc, &mut script.entry, value),
+        Some((b"version", value)) => set_name(alloc, &mut script.version, value),
+        _ => Err(Fault::Word),
+    }
+}
+
 /// A linker script, perhaps with the name of an entry and the text of a version script.
 fn script_of(alloc: Global, name: &[u8], words: &[&[u8]]) -> Result<ProcessedLinkerScript, Fault> {
+    let input = unescaped(alloc, name)?;
     let mut script = ProcessedLinkerScript {
-        input: unescaped(alloc, name)?,
+        input,
         entry: None,
         version: None,
         symbol_defs: Seq::new(alloc),
     };
     for word in words {
-        match key_and_value(word) {
-            Some((b"entry", value)) => script.entry = Some(unescaped(alloc, value)?),
-            Some((b"version", value)) => script.version = Some(unescaped(alloc, value)?),
-            _ => return Err(Fault::Word),
-        }
+        set_script(alloc, &mut script, word)?;
     }
     Ok(script)
 }
 
+/// Sets what a word says of a stub library.
+fn set_stub(alloc: Global, stub: &mut StubLibrary, word: &[u8]) -> Result<(), Fault> {
+    match key_and_value(word) {
+        Some((b"strong", value)) => set_names(alloc, &mut stub.strong, value),
+        Some((b"weak", value)) => set_names(alloc, &mut stub.weak, value),
+        _ => Err(Fault::Word),
+    }
+}
+
 /// A stub library.
 fn stub_of(alloc: Global, name: &[u8], words: &[&[u8]]) -> Result<StubLibrary, Fault> {
+    let input = unescaped(alloc, name)?;
     let mut stub = StubLibrary {
-        input: unescaped(alloc, name)?,
+        input,
         strong: Seq::new(alloc),
         weak: Seq::new(alloc),
     };
     for word in words {
-        match key_and_value(word) {
-            Some((b"strong", value)) => stub.strong = listed(alloc, value)?,
-            Some((b"weak", value)) => stub.weak = listed(alloc, value)?,
-            _ => return Err(Fault::Word),
-        }
+        set_stub(alloc, &mut stub, word)?;
     }
     Ok(stub)
 }
@@ -219,24 +244,44 @@ impl Gathered {
     /// Adds the file, or the symbol of the last file, that a line tells. Says whether it tells one.
     /// How lines are read is left to the cases: no clause says it.
     pub fn take(&mut self, alloc: Global, has_null: bool, words: &[&[u8]]) -> Result<bool, Fault> {
-        match words {
-            [b"object", name, rest @ ..] => {
-                self.objects.push(object_of(alloc, has_null, name, rest)?)?;
-            }
-            [b"symbol", name, rest @ ..] => {
-                self.add_symbol(entry_of(alloc, name, rest)?)?;
-            }
-            [b"script", name, rest @ ..] => self.scripts.push(script_of(alloc, name, rest)?)?,
-            [b"scripts", count] => self.add_scripts(alloc, number_of(count)?)?,
-            [b"def", rest @ ..] => self.add_definition(definition_of(alloc, rest)?)?,
-            [b"stub", name, rest @ ..] => self.stubs.push(stub_of(alloc, name, rest)?)?,
+        let (verb, rest) = first_and_rest(words)?;
+        match verb {
+            b"object" => self.add_object(alloc, has_null, rest)?,
+            b"symbol" => self.add_symbol(alloc, rest)?,
+            b"script" => self.add_script(alloc, rest)?,
+            b"scripts" => self.add_scripts(alloc, only(rest)?)?,
+            b"def" => self.add_definition(alloc, rest)?,
+            b"stub" => self.add_stub(alloc, rest)?,
             _ => return Ok(false),
         }
         Ok(true)
     }
 
+    /// Adds an object.
+    fn add_object(&mut self, alloc: Global, has_null: bool, words: &[&[u8]]) -> Result<(), Fault> {
+        let (name, rest) = first_and_rest(words)?;
+        let object = object_of(alloc, has_null, name, rest)?;
+        Ok(self.objects.push(object)?)
+    }
+
+    /// Adds a linker script.
+    fn add_script(&mut self, alloc: Global, words: &[&[u8]]) -> Result<(), Fault> {
+        let (name, rest) = first_and_rest(words)?;
+        let script = script_of(alloc, name, rest)?;
+        Ok(self.scripts.push(script)?)
+    }
+
+    /// Adds a stub library.
+    fn add_stub(&mut self, alloc: Global, words: &[&[u8]]) -> Result<(), Fault> {
+        let (name, rest) = first_and_rest(words)?;
+        let stub = stub_of(alloc, name, rest)?;
+        Ok(self.stubs.push(stub)?)
+    }
+
     /// Adds a symbol to the last object.
-    fn add_symbol(&mut self, entry: SymbolEntry) -> Result<(), Fault> {
+    fn add_symbol(&mut self, alloc: Global, words: &[&[u8]]) -> Result<(), Fault> {
+        let (name, rest) = first_and_rest(words)?;
+        let entry = entry_of(alloc, name, rest)?;
         match self.objects.last_mut() {
             Some(object) => Ok(object.table.symbols.push(entry)?),
             None => Err(Fault::File),
@@ -244,7 +289,8 @@ impl Gathered {
     }
 
     /// Adds a definition to the last linker script.
-    fn add_definition(&mut self, definition: InternalSymDefInfo) -> Result<(), Fault> {
+    fn add_definition(&mut self, alloc: Global, words: &[&[u8]]) -> Result<(), Fault> {
+        let definition = definition_of(alloc, words)?;
         match self.scripts.last_mut() {
             Some(script) => Ok(script.symbol_defs.push(definition)?),
             None => Err(Fault::File),
@@ -252,9 +298,9 @@ impl Gathered {
     }
 
     /// Adds so many linker scripts that say nothing.
-    fn add_scripts(&mut self, alloc: Global, count: u32) -> Result<(), Fault> {
-        for _ in 0..count {
-            self.scripts.push(script_of(alloc, b"empty.ld", &[])?)?;
+    fn add_scripts(&mut self, alloc: Global, count: &[u8]) -> Result<(), Fault> {
+        for _ in 0..number_of(count)? {
+            self.add_script(alloc, &[b"empty.ld"])?;
         }
         Ok(())
     }

@@ -44,6 +44,38 @@ pub fn listed(alloc: Global, word: &[u8]) -> Result<Seq<Name>, AllocError> {
     Ok(names)
 }
 
+/// The first word of a line and those behind it.
+/// How words are read is left to the cases: no clause says it.
+pub fn first_and_rest<'a, 'b>(words: &'b [&'a [u8]]) -> Result<(&'a [u8], &'b [&'a [u8]]), Fault> {
+    match words {
+        [first, rest @ ..] => Ok((*first, rest)),
+        _ => Err(Fault::Line),
+    }
+}
+
+/// The one word of a line.
+/// How words are read is left to the cases: no clause says it.
+pub fn only<'a>(words: &[&'a [u8]]) -> Result<&'a [u8], Fault> {
+    match words {
+        [word] => Ok(*word),
+        _ => Err(Fault::Line),
+    }
+}
+
+/// Sets a name to what a word stands for.
+/// How words are read is left to the cases: no clause says it.
+pub fn set_name(alloc: Global, slot: &mut Option<Name>, word: &[u8]) -> Result<(), Fault> {
+    *slot = Some(unescaped(alloc, word)?);
+    Ok(())
+}
+
+/// Sets names to those that a word lists.
+/// How words are read is left to the cases: no clause says it.
+pub fn set_names(alloc: Global, slot: &mut Seq<Name>, word: &[u8]) -> Result<(), Fault> {
+    *slot = listed(alloc, word)?;
+    Ok(())
+}
+
 /// The parts of a word before and behind its first `=`.
 /// How words are read is left to the cases: no clause says it.
 pub fn key_and_value(word: &[u8]) -> Option<(&[u8], &[u8])> {

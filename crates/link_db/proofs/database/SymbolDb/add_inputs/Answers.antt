@@ -29,9 +29,9 @@ pub returns-in_err-script-clause-cause : goal.returns-in_err-script-clause-cause
 returns-in_err-script-clause-cause g c = λ batches held.
     let old = seen c.args.self.now in
     let other = too_many (first_excess (counts_of old.options (batches ++ batch_of c.args.inputs ∷ []))) in
-    let same = same-cause old.options batches old.mapping.files.groups c.groups.result.now c.files.result.now.groups c.is_empty-is_late.result c.num_scripts-first.result c.as_slice-scripts.result.now c.args.inputs.scripts old.rules.is_taken
+    let same = same-cause old.rules.profile old.options batches old.mapping.files.groups c.groups.result.now c.files.result.now.groups c.is_empty-is_late.result c.num_scripts-first.result c.as_slice-scripts.result.now c.args.inputs.scripts old.rules.is_taken
     held c.groups.ensures c.is_empty-is_late.ensures (ap (λ (f : HeldFiles g.row.P.Denot). f.groups) c.files.ensures) c.num_scripts-first.ensures c.as_slice-scripts.ensures in
-    let first = linker_script_cause (not (is_empty batches)) old.rules.is_taken (length (flat_map (λ (b : Batch). b.scripts) batches)) c.args.inputs.scripts in
+    let first = linker_script_cause old.rules.profile (not (is_empty batches)) old.rules.is_taken (length (flat_map (λ (b : Batch). b.scripts) batches)) c.args.inputs.scripts in
     let e = c.in_err-script.field-0.0 in
     let told : TellsCause {A = Unit {0}} first (Err e) = subst (λ (o : Option LinkError). TellsCause {A = Unit {0}} o (Err e)) same c.in_err-script.ensures.cause in
     tells-through _ (option_or first (option_or other None)) e c.from_residual.result c.from_residual.ensures.0 c.from_residual.ensures.1
@@ -41,9 +41,9 @@ pub returns-in_err-groups-clause-cause : goal.returns-in_err-groups-clause-cause
 returns-in_err-groups-clause-cause g c = λ batches held.
     let old = seen c.args.self.now in
     let other = too_many (first_excess (counts_of old.options (batches ++ batch_of c.args.inputs ∷ []))) in
-    let same = same-cause old.options batches old.mapping.files.groups c.groups.result.now c.files.result.now.groups c.is_empty-is_late.result c.num_scripts-first.result c.as_slice-scripts.result.now c.args.inputs.scripts old.rules.is_taken
+    let same = same-cause old.rules.profile old.options batches old.mapping.files.groups c.groups.result.now c.files.result.now.groups c.is_empty-is_late.result c.num_scripts-first.result c.as_slice-scripts.result.now c.args.inputs.scripts old.rules.is_taken
     held c.groups.ensures c.is_empty-is_late.ensures (ap (λ (f : HeldFiles g.row.P.Denot). f.groups) c.files.ensures) c.num_scripts-first.ensures c.as_slice-scripts.ensures in
-    let first = linker_script_cause (not (is_empty batches)) old.rules.is_taken (length (flat_map (λ (b : Batch). b.scripts) batches)) c.args.inputs.scripts in
+    let first = linker_script_cause old.rules.profile (not (is_empty batches)) old.rules.is_taken (length (flat_map (λ (b : Batch). b.scripts) batches)) c.args.inputs.scripts in
     let e = c.in_err-groups.field-0.0 in
     let told : TellsCause {A = Unit {0}} other (Err e) = c.in_err-groups.ensures.cause batches held in
     tells-through _ (option_or first (option_or other None)) e c.from_residual-in_err-groups.result c.from_residual-in_err-groups.ensures.0 c.from_residual-in_err-groups.ensures.1
@@ -68,9 +68,9 @@ pub returns-clause-cause : goal.returns-clause-cause
 returns-clause-cause g c = λ batches held.
     let old = seen c.args.self.now in
     let other = too_many (first_excess (counts_of old.options (batches ++ batch_of c.args.inputs ∷ []))) in
-    let same = same-cause old.options batches old.mapping.files.groups c.groups.result.now c.files.result.now.groups c.is_empty-is_late.result c.num_scripts-first.result c.as_slice-scripts.result.now c.args.inputs.scripts old.rules.is_taken
+    let same = same-cause old.rules.profile old.options batches old.mapping.files.groups c.groups.result.now c.files.result.now.groups c.is_empty-is_late.result c.num_scripts-first.result c.as_slice-scripts.result.now c.args.inputs.scripts old.rules.is_taken
     held c.groups.ensures c.is_empty-is_late.ensures (ap (λ (f : HeldFiles g.row.P.Denot). f.groups) c.files.ensures) c.num_scripts-first.ensures c.as_slice-scripts.ensures in
-    neither (linker_script_cause (not (is_empty batches)) old.rules.is_taken (length (flat_map (λ (b : Batch). b.scripts) batches)) c.args.inputs.scripts) other
+    neither (linker_script_cause old.rules.profile (not (is_empty batches)) old.rules.is_taken (length (flat_map (λ (b : Batch). b.scripts) batches)) c.args.inputs.scripts) other
     (sym same ∙ c.in_ok-script.ensures.cause) (c.in_ok-groups.ensures.cause batches held)
 
 -- a refused call, of which the clause says nothing

@@ -1,9 +1,8 @@
 use Rattle.std.proofs.Common.{◌∙◌, Option, ap, sym}
 use Rattle.std.specs.Option.{option_and_then}
 use Rattle.link_ids.specs.Span.{offset_in}
-use Rattle.link_input.specs.Symbols.{Symbol}
+use Rattle.link_input.specs.Symbols.{Symbol, entry_in}
 use Rattle.link_input_groups.specs.SequencedInputs.{sequenced_file}
-use Rattle.link_db_files.specs.Origins.{entry_in}
 use Rattle.link_db_files.proofs.Entries.{entry-asked, no-entry}
 use Rattle.link_db_files.proofs.files.Files.symbol_row.Goals as goal
 

@@ -8,7 +8,7 @@ pub returns-clause-definitions : goal.returns-clause-definitions
 returns-clause-definitions g c =
     let shared = g.Self.SymbolLoader.is_dynamic in
     on_ok_weaker c.add_symbol.result (λ added. added (entry_symbol shared c.args.row.now)
-    (sym (c.as_slice-name.ensures ∙ c.name.ensures)) (sym c.version_of.ensures)
+    (sym (c.as_slice-name.ensures ∙ c.name.ensures)) (sym c.version_bytes.ensures)
     (c.listing_of_row-listing.ensures.plain shared c.should_ignore_symbol.ensures)
     (c.listing_of_row-listing.ensures.versioned shared c.should_ignore_symbol.ensures)) c.add_symbol.ensures.definitions
 

@@ -6,17 +6,17 @@ use Rattle.link_flags.specs.declared.strength.SymbolStrength.TheVariants.{Undefi
 use Rattle.link_flags.specs.Pick.{Candidate, common_of, first_strong, first_weak, is_largest, is_strong, is_weak, largest_common, pick}
 use Rattle.link_rules.specs.Places.{Bytes}
 use Rattle.link_rules.specs.Targets.{mapped_in}
-use Rattle.link_db_mapping.specs.Mapped.{mapped_key}
+use Rattle.link_db_mapping.specs.Mapped.{Mapped, mapped_key}
 use Rattle.std.proofs.lemmas.List.Elements.{All-head, All-tail}
 use Rattle.link_db_files.specs.HeldFiles.{HeldFiles, is_shared_in, strength_of}
-use Rattle.link_db.specs.Database.{Database, name_table_of}
-use Rattle.link_db.specs.Unshared.{unshared}
+use Rattle.link_db_lookup.specs.Tables.{name_table_in}
+use Rattle.link_db_lookup.specs.Unshared.{unshared}
 
 -- what a key is mapped to, as the table of names says it
-pub mapped_by_key : {P : Type 0} (db : Database P) (name : Bytes) (version : Option Bytes)
-    → mapped_key db.mapping (record { name = name; version = version }) ≡ mapped_in (name_table_of db) name version
-mapped_by_key db name None = refl
-mapped_by_key db name (Some v) = refl
+pub mapped_by_key : {P : Type 0} (m : Mapped P) (name : Bytes) (version : Option Bytes)
+    → mapped_key m (record { name = name; version = version }) ≡ mapped_in (name_table_in m) name version
+mapped_by_key m name None = refl
+mapped_by_key m name (Some v) = refl
 
 -- each candidate is a symbol below a count
 abbrev pub Below : ℕ → List Candidate → Type 0

@@ -1,8 +1,8 @@
 use Rattle.std.proofs.Common.{◌≡◌, drop}
 use Rattle.std.specs.Prelude.{fold}
 use Rattle.link_flags.specs.Selector.{after, considered}
-use Rattle.link_db.specs.Unshared.{unshared}
-use Rattle.link_db.proofs.picking.pick_unshared.Given as goal
+use Rattle.link_db_lookup.specs.Unshared.{unshared}
+use Rattle.link_db_lookup.proofs.picking.pick_unshared.Given as goal
 
 abbrev pub invariant-loop-number : goal.invariant-loop-number
 invariant-loop-number g l =

@@ -4,7 +4,7 @@ ghost use Rattle.std.specs.Prelude.{◌≡◌, ◌<◌, All, IfSome, length};
 ghost use Rattle.link_flags.specs.Pick.{pick};
 ghost use Rattle.link_flags.specs.Selector.{after};
 ghost use Rattle.link_db_files.specs.HeldFiles.{names_in};
-ghost use Rattle.link_db.specs.Unshared.{after_unshared, unshared};
+ghost use Rattle.link_db_lookup.specs.Unshared.{after_unshared, unshared};
 
 use link_db_files::Files;
 use link_flags::SymbolPrioritySelector;
@@ -26,7 +26,7 @@ fn consider_unshared<P: Platform>(
 }
 
 /// The pick of those of these symbols that are not shared.
-pub fn pick_unshared<P: Platform>(files: &Files<P>, symbols: &[u32]) -> Option<SymbolId>
+pub(crate) fn pick_unshared<P: Platform>(files: &Files<P>, symbols: &[u32]) -> Option<SymbolId>
     requires { All (λ id. id < length (names_in files.now)) symbols.now }
     ensures { result ≡ pick P.WEAK_SYMBOLS_OVERRIDE_COMMON (unshared files.now symbols.now) }
 {
