@@ -1,0 +1,4 @@
+pub mod Requests
+pub mod Firsts
+pub mod Told
+pub mod Known
