@@ -80,12 +80,12 @@ joined false c d e f = refl
 -- a database at its end tells of which symbol the version script is asked
 pub asks-is : {P : Type 0} (platform : PlatformRules) (demangle : Bytes → Bytes) (db : Database P) (known : Known) (l : Selection) (s : ℕ) (x : Symbol) (v m : Bool)
     → IsEnded platform demangle db known l → v ≡ is_shared_object db.options.output && is_none l.stage.rules.rust_names
-    → m ≡ is_in_loaded_regular known.marks x.origin && is_definition x && not (entry_passes (λ e. is_local e.binding) false x.origin)
+    → m ≡ is_in_loaded_regular known.marks x.origin && is_definition x && not (entry_passes (λ e. is_local e.binding) x.origin)
     → v && m && (two_steps db.table s == s) ≡ asks_version (resolved l) (s, x)
 asks-is platform demangle db known l s x v m is shared own =
     let regular = is_none l.stage.rules.rust_names in
     let defined = is_definition x in
-    let global = not (entry_passes (λ e. is_local e.binding) false x.origin) in
+    let global = not (entry_passes (λ e. is_local e.binding) x.origin) in
     let has : v ≡ is_shared_object l.stage.options.output && regular = shared ∙ ap (λ (o : Options). is_shared_object o.output && regular) (sym is.options) in
     let may : m ≡ is_in_loaded_regular l.marks x.origin && defined && global = own ∙ ap (λ (marks : List Bool). is_in_loaded_regular marks x.origin && defined && global) (sym is.marks) in
     (λ i. has i && may i && (two_steps (is.table i) s == s))

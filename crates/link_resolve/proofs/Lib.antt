@@ -2,9 +2,11 @@ pub mod Behind
 pub mod Lines
 pub mod Making
 pub mod Mapping
+pub mod Meaning
 pub mod Settling
 pub mod Giving
 pub mod Telling
 pub mod Signing
 pub mod Loaded
 pub mod Narrowing
+pub mod Reading

@@ -24,11 +24,12 @@ use Rattle.link_rules.specs.Refusals.{empty_refusal}
 use Rattle.link_rules.specs.declared.refusal.LinkError.TheVariants.{NoInputs}
 use Rattle.link_rules.specs.Rules.{PlatformRules}
 use Rattle.link_db_stage.specs.AtStage.{IsAtStage}
-use Rattle.link_db_symbols.specs.Lookups.{IsSelectionOf}
+use Rattle.link_db_symbols.specs.Lookups.{AreBelow, IsSelectionOf}
 use Rattle.link_db.specs.Database.{Database, symbol_names}
 use Rattle.link_resolve_extraction.specs.Answer.{AreTargetsRead}
 use Rattle.link_resolve_extraction.specs.declared.found.FoundItem.{FoundItem}
 use Rattle.link_resolve.specs.Known.{IsLoadedSelection, IsSelection, Known}
+use Rattle.link_resolve.specs.NextBatch.{IsPointed}
 use Rattle.link_resolve.specs.Resolving.{IsNextStage, Resolving, known_of}
 
 -- all of this
@@ -134,6 +135,12 @@ is-selection {P} platform demangle old new w marks known mapping options rules a
   targets = sym (ap (λ (k : Known). k.targets) is);
   strengths = sym (ap (λ (k : Known). k.strengths) is);
 }
+
+-- a database that differs in its table alone, which has an entry for each symbol
+pub is-pointed : {P : Type 0} (old new : Database P) (table : List ℕ) (known : Known) → new ≡ record old { table = table } → length table ≡ length (symbol_names old)
+    → AreBelow (length (symbol_names old)) known.targets → length known.strengths ≡ length (symbols_in old.mapping.files.groups) → IsPointed old new known
+is-pointed {P} old new table known is whole targets strengths =
+    subst (λ (db : Database P). IsPointed old db known) (sym is) (record { rest = refl; whole = whole; targets = targets; strengths = strengths })
 
 -- behind the last batch, what is known of a selection is all of it, once its groups are chosen and it was computed how strongly symbols bind
 pub pointed-is : {P : Type 0} (platform : PlatformRules) (demangle : Bytes → Bytes) (old new : Database P) (w : Stage) (marks given : List Bool) (parts r : Resolving) (known : Known) (symbols : List Symbol) (groups : IndexedGroups) (strengths : List SymbolStrength)

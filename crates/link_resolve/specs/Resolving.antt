@@ -1,6 +1,5 @@
 -- A batch of a link is resolved: which of its objects are loaded, and what follows for each symbol.
 use Rattle.std.specs.Prelude.{◌≡◌, ◌∷◌, [], List, Bool, Option}
-use Rattle.link_claim.specs.Seats.{Ending}
 use Rattle.link_flags.specs.declared.strength.SymbolStrength.{SymbolStrength}
 use Rattle.link_rules.specs.Orderly.{IsOrderly}
 use Rattle.link_rules.specs.Places.{Bytes}
@@ -14,11 +13,10 @@ use Rattle.link_db.specs.Database.{Database}
 use Rattle.link_resolve.specs.Known.{Known}
 use Rattle.link_db_stage.specs.AtStage.{IsAtStage}
 
--- what a resolver knows: of the symbols, the groups of the loaded regular objects, and the words that threads shared as they read the last batch
+-- what a resolver knows: of the symbols, and the groups of the loaded regular objects
 pub record Resolving : Type 0 where
   pub known : Known
   pub groups : IndexedGroups
-  pub closed : Option Ending
 
 -- nothing is loaded
 abbrev pub nothing_known : Known

@@ -4,8 +4,10 @@ ghost use Rattle.std.specs.Prelude.{◌≡◌, ◌+◌, ◌*◌, ◌<◌, ◌^�
 ghost use Rattle.link_resolve_discarded.specs.Indexed.{AreGroupsOf};
 ghost use Rattle.link_db_files.specs.GroupFiles.{symbols_in};
 ghost use Rattle.link_db_files.specs.Inputs.{objects_in};
+ghost use Rattle.link_db_mapping.specs.Mapped.{mapping_of};
 ghost use Rattle.link_flags.specs.FlagWords.{numbers_of, words_of};
 ghost use Rattle.link_rules.specs.FinalFlags.{final_flags, signature_symbols};
+ghost use Rattle.link_rules.specs.Places.{Bytes};
 ghost use Rattle.link_rules.specs.Rivals.{two_steps, versioned_table};
 ghost use Rattle.link_rules.specs.Selection.{Selection};
 ghost use Rattle.link_rules.specs.Undefined.{boundary_makers, final_table, left_undefined, resolved};
@@ -13,7 +15,7 @@ ghost use Rattle.link_rules.specs.Visibility.{narrowed_flags};
 ghost use Rattle.link_resolve_undefined.specs.UndefinedNames.{undefined_references};
 ghost use Rattle.link_db.specs.Database.{HasTable, symbol_names};
 ghost use Rattle.link_db.specs.Seen.{seen};
-ghost use Rattle.link_resolve.specs.Settled.{IsSettled};
+ghost use Rattle.link_resolve.specs.Settled.{IsSettled, boundary_names, meaning_at_end, with_linker_group};
 
 use crate::resolver::Resolver;
 use crate::signatures::mark_signatures;
@@ -51,8 +53,9 @@ fn group_signatures<P: Platform>(
 impl Resolver {
     /// Gives the references that stay undefined what stands for their names: the last reference that asks for the same, or a new symbol for
     /// the start or the end of one of these custom sections, which are those of the options. The new symbols stand in a group of their own
-    /// behind all files. Then the table and the flags are those of the link at its end. The answer is the references that
-    /// stand for undefined names, in the order of their ids: of those that ask for the same the last, where no new symbol is made. It comes once, behind
+    /// behind all files, also where none is made, and each is what its name is mapped to, if that was mapped to nothing. Then the table and
+    /// the flags are those of the link at its end. The answer is the references that stand for undefined names, in the order of their ids: of
+    /// those that ask for the same the last, where no new symbol is made. It comes once, behind
     /// `resolve_alternative_symbol_definitions` and `SymbolDb::handle_rust_version_script`. Mirrors Wild's `canonicalise_undefined_symbols`.
     ///
     /// The only refusal is want of memory; then database and flags are of no use.
@@ -75,6 +78,10 @@ impl Resolver {
             → numbers_of (words_of flags.new) ≡ final_flags (resolved l)) }
         ensures added { OnOk result ((l : Selection) → IsSettled (seen db.old) self.now.known l → l.stage.options.custom_sections ≡ custom_sections.now
             → (seen db.new).mapping.files.added ≡ map (λ m. m.1.name) (boundary_makers l.stage (left_undefined l))) }
+        ensures mapping { OnOk result ((l : Selection) → IsSettled (seen db.old) self.now.known l → l.stage.options.custom_sections ≡ custom_sections.now
+            → (seen db.new).mapping ≡ with_linker_group (boundary_names l) (seen db.old).mapping) }
+        ensures meanings { OnOk result ((l : Selection) → IsSettled (seen db.old) self.now.known l → l.stage.options.custom_sections ≡ custom_sections.now
+            → (name : Bytes) → mapping_of (seen db.new).mapping name ≡ meaning_at_end l name) }
         ensures symbols { OnOk result (symbols_in (seen db.new).mapping.files.groups ≡ symbols_in (seen db.old).mapping.files.groups) }
         ensures objects { OnOk result (objects_in (seen db.new).mapping.files.groups ≡ objects_in (seen db.old).mapping.files.groups) }
         ensures options { OnOk result ((seen db.new).options ≡ (seen db.old).options) }

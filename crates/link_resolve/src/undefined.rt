@@ -4,7 +4,9 @@ ghost use Rattle.std.specs.Prelude.{◌≡◌, ◌+◌, ◌*◌, ◌++◌, ◌<�
 ghost use Rattle.link_db_files.specs.Adding.{EndsInSynthetic};
 ghost use Rattle.link_db_files.specs.GroupFiles.{symbols_in};
 ghost use Rattle.link_db_files.specs.Inputs.{objects_in};
+ghost use Rattle.link_db_mapping.specs.Mapped.{mapping_of};
 ghost use Rattle.link_flags.specs.FlagWords.{numbers_of, words_of};
+ghost use Rattle.link_rules.specs.Places.{Bytes};
 ghost use Rattle.link_rules.specs.Rivals.{versioned_table};
 ghost use Rattle.link_rules.specs.Selection.{Selection};
 ghost use Rattle.link_rules.specs.Undefined.{boundary_makers, final_table, left_undefined, resolved as resolution};
@@ -13,7 +15,7 @@ ghost use Rattle.link_resolve_undefined.specs.Flagged.{flagged, new_words};
 ghost use Rattle.link_resolve_undefined.specs.UndefinedNames.{undefined_references};
 ghost use Rattle.link_db.specs.Database.{HasTable, symbol_names};
 ghost use Rattle.link_db.specs.Seen.{seen};
-ghost use Rattle.link_resolve.specs.Settled.{HasMade, IsSettled};
+ghost use Rattle.link_resolve.specs.Settled.{IsSettled, boundary_names, meaning_at_end, with_linker_group, with_linker_symbols};
 
 use crate::definitions::Definitions;
 use crate::resolved::Resolved;
@@ -137,7 +139,8 @@ fn add_symbols<P: Platform>(
     requires table { HasTable (seen db.old) }
     requires flags { length (words_of flags.old) ≡ length (symbol_names (seen db.old)) }
     requires fits { length (symbol_names (seen db.old)) + length names.items < 2 ^ 32 }
-    ensures { OnOk result (HasMade names.items (seen db.old) (seen db.new)) }
+    ensures { OnOk result (seen db.new
+        ≡ record (seen db.old) { mapping = with_linker_symbols names.items (seen db.old).mapping; table = (seen db.new).table }) }
 {
     for name in names {
         db.add_synthetic_symbol(flags, name)?;
@@ -156,7 +159,8 @@ fn add_group_of<P: Platform>(
     requires table { HasTable (seen db.old) }
     requires flags { length (words_of flags.old) ≡ length (symbol_names (seen db.old)) }
     requires fits { length (symbol_names (seen db.old)) + length names.items < 2 ^ 32 }
-    ensures { OnOk result (HasMade names.items (seen db.old) (seen db.new)) }
+    ensures { OnOk result (seen db.new
+        ≡ record (seen db.old) { mapping = with_linker_group names.items (seen db.old).mapping; table = (seen db.new).table }) }
 {
     let _file = db.new_synthetic_symbols_group(alloc)?;
     add_symbols(db, flags, names)?;
@@ -190,6 +194,10 @@ pub(crate) fn canonicalise_references<P: Platform>(
         → numbers_of (words_of flags.new) ≡ flagged (resolution l) (narrowed_flags l) (new_words (resolution l))) }
     ensures added { OnOk result ((l : Selection) → IsSettled (seen db.old) resolved.now l → l.stage.options.custom_sections ≡ custom_sections.now
         → (seen db.new).mapping.files.added ≡ map (λ m. m.1.name) (boundary_makers l.stage (left_undefined l))) }
+    ensures mapping { OnOk result ((l : Selection) → IsSettled (seen db.old) resolved.now l → l.stage.options.custom_sections ≡ custom_sections.now
+        → (seen db.new).mapping ≡ with_linker_group (boundary_names l) (seen db.old).mapping) }
+    ensures meanings { OnOk result ((l : Selection) → IsSettled (seen db.old) resolved.now l → l.stage.options.custom_sections ≡ custom_sections.now
+        → (name : Bytes) → mapping_of (seen db.new).mapping name ≡ meaning_at_end l name) }
     ensures symbols { OnOk result (symbols_in (seen db.new).mapping.files.groups ≡ symbols_in (seen db.old).mapping.files.groups) }
     ensures objects { OnOk result (objects_in (seen db.new).mapping.files.groups ≡ objects_in (seen db.old).mapping.files.groups) }
     ensures options { OnOk result ((seen db.new).options ≡ (seen db.old).options) }

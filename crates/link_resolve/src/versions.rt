@@ -69,7 +69,7 @@ fn is_held(symbol: &SymbolView, loaded: &[bool]) -> bool
 
 /// Whether it is a local symbol of an object.
 fn is_local(symbol: &SymbolView) -> bool
-    ensures { result ≡ entry_passes (λ e. is_local e.binding) false symbol.now.origin }
+    ensures { result ≡ entry_passes (λ e. is_local e.binding) symbol.now.origin }
 {
     match symbol.origin() {
         SymbolOrigin::Object { row, .. } => row.is_local(),
@@ -79,7 +79,7 @@ fn is_local(symbol: &SymbolView) -> bool
 
 /// Whether it is a definition of a loaded regular object that isn't local.
 fn may_have_version(symbol: &SymbolView, loaded: &[bool]) -> bool
-    ensures { result ≡ (is_in_loaded_regular loaded.now symbol.now.origin && is_definition symbol.now && not (entry_passes (λ e. is_local e.binding) false symbol.now.origin)) }
+    ensures { result ≡ (is_in_loaded_regular loaded.now symbol.now.origin && is_definition symbol.now && not (entry_passes (λ e. is_local e.binding) symbol.now.origin)) }
 {
     is_held(symbol, loaded) && symbol.is_definition() && !is_local(symbol)
 }

@@ -13,18 +13,12 @@ ghost use Rattle.link_resolve_discarded.specs.Checked.{grouped_among, is_grouped
 ghost use Rattle.link_resolve_discarded.specs.Regular.{regular_among};
 
 use crate::placed::placed_objects;
+use link_closure::is_marked;
 use link_db_files::{FileOutline, Files};
 use link_input::Platform;
 use link_input_groups::Group;
 use link_resolve_comdat::Candidate;
 use std::alloc::{AllocError, Global};
-
-/// The mark at this place; none is set past the end.
-pub(crate) fn is_marked(marks: &[bool], at: usize) -> bool
-    ensures { result ≡ is_marked marks.now at }
-{
-    marks.get(at).copied().unwrap_or(false)
-}
 
 /// The objects of groups that are loaded and not shared, each with its place among all. There is a mark for each loaded object, by its
 /// place. The only refusal is want of memory.

@@ -10,7 +10,8 @@ ghost use Rattle.link_rules.specs.Refusals.{group_cause};
 ghost use Rattle.link_rules.specs.World.{Stage};
 ghost use Rattle.link_resolve_discarded.specs.Checked.{WereGroupsFine, is_new};
 
-use crate::candidates::{grouped_candidates, is_marked};
+use crate::candidates::grouped_candidates;
+use link_closure::is_marked;
 use link_db_files::Files;
 use link_input::Platform;
 use link_resolve_comdat::Selection;

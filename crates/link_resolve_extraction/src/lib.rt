@@ -19,5 +19,5 @@ pub use answer::{
 };
 pub use found::{FoundItem, FoundReference, ReadItem};
 pub use items::{ITEM_SIZE, WorkItem, work_items};
-pub use loading::{LoadedObjects, load_objects};
+pub use loading::{BatchRead, LoadedObjects, load_objects};
 pub use plan::LinkPlan;

@@ -9,6 +9,7 @@ ghost use Rattle.link_resolve_requests.specs.Objects.{is_kept, kept_marks};
 ghost use Rattle.link_rules.specs.Places.{each_from};
 ghost use Rattle.link_db_symbols.specs.Walk.{objects_among};
 
+use link_closure::is_marked;
 use link_db_files::{FileOutline, Files};
 use link_input::Platform;
 use link_input_groups::{Group, SequencedInputObject};
@@ -22,13 +23,6 @@ pub fn objects_of<P: Platform>(group: &Group<P>) -> &[SequencedInputObject<P>]
         Group::Objects(objects) => objects.as_slice(),
         _ => &[],
     }
-}
-
-/// The mark at this place; none is set past the end.
-fn is_marked(marks: &[bool], at: usize) -> bool
-    ensures { result ≡ is_marked marks.now at }
-{
-    marks.get(at).copied().unwrap_or(false)
 }
 
 /// Adds the mark of a file of this outline, if it is an object: that an earlier batch had it loaded, or that it isn't optional.

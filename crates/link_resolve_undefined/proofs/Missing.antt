@@ -57,7 +57,7 @@ by-target l u n (Some t) at loaded =
     ∙ (λ i. not (is_loaded l.stage l.marks t) && (is_weak_symbol u || same_number (sym at i) (object_of l.stage t))))
 
 -- only objects' symbols are references
-object-of : (p : SymbolEntry → Bool) (c : Bool) (o : Origin) → entry_passes p false o && c ≡ true → (n : ℕ) × (object_in o ≡ Some n)
+object-of : (p : SymbolEntry → Bool) (c : Bool) (o : Origin) → entry_passes p o && c ≡ true → (n : ℕ) × (object_in o ≡ Some n)
 object-of p c (in_prelude d) is = absurd (cc)
 object-of p c (in_object n shared e) is = (n, refl)
 object-of p c (in_script d) is = absurd (cc)

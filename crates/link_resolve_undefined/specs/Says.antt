@@ -12,10 +12,10 @@ use Rattle.link_resolve_undefined.specs.Keys.{Asks}
 pub record Says (reference : Reference) (x : Symbol) : Type 0 where
   pub asks : Asks reference.name x
   pub weak : reference.is_weak ≡ is_weak_symbol x
-  pub seen : reference.is_open ≡ entry_passes (λ e. is_default_visibility e.visibility) false x.origin
+  pub seen : reference.is_open ≡ entry_passes (λ e. is_default_visibility e.visibility) x.origin
   pub visibility : reference.visibility ≡ visibility_in x.origin
 
 -- whether an undefined name is left to the dynamic loader in such an output
 abbrev pub is_bound_late : OutputKind → Symbol → Bool
-is_bound_late output x = entry_passes (λ e. is_default_visibility e.visibility) false x.origin
+is_bound_late output x = entry_passes (λ e. is_default_visibility e.visibility) x.origin
     && (is_shared_object output || (is_weak_symbol x && is_dynamic_executable output))

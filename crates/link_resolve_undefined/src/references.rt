@@ -9,21 +9,12 @@ ghost use Rattle.link_rules.specs.Undefined.{left_undefined};
 ghost use Rattle.link_resolve_undefined.specs.Records.{AreSome, TellsOf, numbered_at};
 ghost use Rattle.link_resolve_undefined.specs.Remaining.{held_by, is_missing_in, remaining_from, stays_in};
 
+use link_closure::is_marked;
 use link_db_files::Files;
 use link_db_symbols::{SymbolView, symbols, target_of};
 use link_ids::SymbolId;
 use link_input::Platform;
 use std::alloc::{AllocError, Global};
-
-/// The mark of this number.
-fn is_marked(marks: &[bool], number: usize) -> bool
-    ensures { result ≡ is_marked marks.now number }
-{
-    match marks.get(number) {
-        Some(is_marked) => *is_marked,
-        None => false,
-    }
-}
 
 /// Whether the file of the symbol is loaded, where these objects are.
 fn is_file_loaded(loaded: &[bool], symbol: &SymbolView) -> bool

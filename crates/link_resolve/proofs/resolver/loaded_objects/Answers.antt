@@ -1,20 +1,26 @@
-use Rattle.std.proofs.Common.{◌∙◌, ℕ, List, Option, length, subst, sym}
+use Rattle.std.proofs.Common.{◌∙◌, ℕ, List, Option, ap, length, min, subst, sym}
 use Rattle.link_resolve_extraction.specs.Answer.{AreTargetsRead}
+use Rattle.link_resolve_extraction.specs.Requests.{readers_of}
 use Rattle.link_db.specs.Database.{symbol_names}
 use Rattle.link_db.specs.Seen.{seen}
-use Rattle.link_resolve.proofs.Loaded.{ok-into}
 use Rattle.link_resolve.proofs.resolver.loaded_objects.Goals as goal
 
-pub returns-clause-loaded : goal.returns-clause-loaded
-returns-clause-loaded g c =
-    ok-into c.load_objects.result _ _ (λ r held demangle w is. held demangle w is.stage (is.loaded ∙ sym c.loaded.ensures) (is.targets ∙ sym c.targets.ensures) is.orderly) c.load_objects.ensures.loaded
-
-pub returns-clause-targets : goal.returns-clause-targets
-returns-clause-targets g c =
-    ok-into c.load_objects.result _ _ (λ r held demangle w is targets read.
-    held demangle w is.stage (is.loaded ∙ sym c.loaded.ensures) (is.targets ∙ sym c.targets.ensures) is.orderly targets
-    (subst (λ (ts : List (Option ℕ)). AreTargetsRead (length (symbol_names (seen c.args.db.now))) ts r.found.items targets) (sym c.targets.ensures) read)) c.load_objects.ensures.targets
-
-pub returns-clause-work : goal.returns-clause-work
-returns-clause-work g c =
-    ok-into c.load_objects.result _ _ (λ r held demangle w is. held demangle w is.stage (is.loaded ∙ sym c.loaded.ensures) (is.targets ∙ sym c.targets.ensures)) c.load_objects.ensures.work
+pub returns : goal.returns
+returns g c =
+    let e = c.in_ok-found.ensures in
+    let found = c.in_ok-found.found in
+    record {
+      loaded = λ demangle w is. e.loaded demangle w is.stage (is.loaded ∙ sym c.loaded.ensures) (is.targets ∙ sym c.targets.ensures) is.orderly;
+      targets = λ demangle w is targets read. e.targets demangle w is.stage (is.loaded ∙ sym c.loaded.ensures) (is.targets ∙ sym c.targets.ensures) is.orderly targets
+          (subst (λ (ts : List (Option ℕ)). AreTargetsRead (length (symbol_names (seen c.args.db.now))) ts found.found.items targets) (sym c.targets.ensures) read);
+      below = e.below;
+      read = record {
+        work = λ demangle w is. e.work demangle w is.stage (is.loaded ∙ sym c.loaded.ensures) (is.targets ∙ sym c.targets.ensures);
+        symbols = e.symbols;
+        all = record { read = e.read; settled = e.closed };
+        counted = record {
+          requests = e.requests;
+          readers = e.readers ∙ ap (λ n. readers_of n (length found.read.closed.view.work.items)) (c.min-workers.ensures ∙ ap (λ n. min n 256) c.max.ensures);
+        };
+      };
+    }

@@ -34,3 +34,6 @@ returns-clause-groups g c = λ demangle w is marks loaded.
     let objects = ap (λ (gs : List (Group g.row.P.Denot)). objects_in gs) c.groups.ensures ∙ sym is.stage.objects in
     groups-are w marks c.in_ok-found.found.loaded.items c.deref.result.now (objects_in c.groups.result.now) c.in_ok-groups.groups (c.in_ok-found.ensures.loaded demangle w is) loaded c.deref.ensures.value objects
     c.in_ok-groups.ensures.groups c.in_ok-groups.ensures.indices
+
+pub returns-clause-found : goal.returns-clause-found
+returns-clause-found g c = c.in_ok-found.ensures

@@ -1,8 +1,7 @@
-use Rattle.std.proofs.Common.{[], ap, arith, length, subst, sym}
+use Rattle.std.proofs.Common.{ap, arith, length}
 use Rattle.link_db.specs.Database.{Database}
 use Rattle.link_db.specs.Seen.{seen}
-use Rattle.link_resolve.specs.Settled.{HasMade}
-use Rattle.link_resolve.proofs.Making.{count-group, made-behind, made-group}
+use Rattle.link_resolve.proofs.Making.{count-group, made-behind}
 use Rattle.link_resolve.proofs.undefined.add_group_of.Goals as goal
 
 pub add_symbols-requires-clause-table : goal.add_symbols-requires-clause-table
@@ -20,7 +19,4 @@ add_symbols-requires-clause-fits g c =
 
 pub returns : goal.returns
 returns g c =
-    let old = seen c.args.db.now in
-    let now = seen c.new_synthetic_symbols_group.new.self in
-    let first : HasMade [] old now = subst (λ (d : Database g.row.P.Denot). HasMade [] old d) (sym c.in_ok-_file.ensures.ok) (made-group old) in
-    made-behind c.args.names.items old now (seen c.add_symbols.new.db) first c.in_ok-add_symbols.ensures
+    made-behind c.args.names.items (seen c.args.db.now) (seen c.new_synthetic_symbols_group.new.self) (seen c.add_symbols.new.db) c.in_ok-_file.ensures.ok c.in_ok-add_symbols.ensures

@@ -1,4 +1,4 @@
-use Rattle.std.proofs.Common.{◌++◌, [], ◌∷◌, ap, arith, length, length-append, subst, sym}
+use Rattle.std.proofs.Common.{[], ◌∷◌, ap, arith, length, length-append, subst, sym}
 use Rattle.std.proofs.lemmas.List.{length-map}
 use Rattle.link_db_files.proofs.Changing.{ends-kept}
 use Rattle.link_db_files.specs.Adding.{EndsInSynthetic}
@@ -7,7 +7,6 @@ use Rattle.link_flags.specs.FlagWords.{numbers_of, words_of}
 use Rattle.link_flags.specs.declared.value_flags.RawFlags.{RawFlags}
 use Rattle.link_db.specs.Database.{Database}
 use Rattle.link_db.specs.Seen.{seen}
-use Rattle.link_resolve.specs.Settled.{HasMade}
 use Rattle.link_resolve.proofs.Making.{count-kept, made-symbol, whole-kept}
 use Rattle.link_resolve.proofs.undefined.add_symbols.Goals as goal
 
@@ -21,8 +20,8 @@ loop-name-preserved g c =
     let is = c.in_ok-add_synthetic_symbol.ensures.ok in
     let words = words_of c.loop-name.flags in
     record {
-      made = subst (λ (d : Database g.row.P.Denot). HasMade (c.loop-name.yielded ++ name ∷ []) (seen c.args.db.now) d) (sym is)
-          (made-symbol c.loop-name.yielded name (seen c.args.db.now) now before.made before.last);
+      made = made-symbol c.loop-name.yielded name (seen c.args.db.now) now new before.made is;
+      count = omega (arith, before.count, count-kept name now new before.last is, length-append c.loop-name.yielded (name ∷ []));
       last = subst (λ (d : Database g.row.P.Denot). EndsInSynthetic d.mapping.files.groups) (sym is) (ends-kept now.mapping.files name before.last);
       table = whole-kept name now new before.last is before.table;
       flags = omega (

@@ -13,7 +13,7 @@ returns-then-not-has_versions g c = λ demangle l is.
     let db = seen c.args.db.now in
     let x = c.args.symbol.now in
     let s = c.args.id in
-    let may = is_in_loaded_regular c.args.resolved.now.marks x.origin && is_definition x && not (entry_passes (λ e. is_local e.binding) false x.origin) in
+    let may = is_in_loaded_regular c.args.resolved.now.marks x.origin && is_definition x && not (entry_passes (λ e. is_local e.binding) x.origin) in
     (λ i. sym c.if-not-has_versions.true i && may && (two_steps db.table s == s))
     ∙ asks-is (platform_of g.P.Platform) demangle db c.args.resolved.now l s x c.has_versions.result may is (c.has_versions.ensures demangle l.stage.rules is.rules) refl
 
@@ -23,7 +23,7 @@ returns-then-may_have_version g c = λ demangle l is.
     let x = c.args.symbol.now in
     let s = c.args.id in
     let may = c.may_have_version.ensures
-    ∙ ap (λ (marks : List Bool). is_in_loaded_regular marks x.origin && is_definition x && not (entry_passes (λ e. is_local e.binding) false x.origin)) c.loaded.ensures in
+    ∙ ap (λ (marks : List Bool). is_in_loaded_regular marks x.origin && is_definition x && not (entry_passes (λ e. is_local e.binding) x.origin)) c.loaded.ensures in
     let own : c.eq.result ≡ (two_steps db.table s == s) = c.eq.ensures ∙ ap (λ t. t == s) c.definition.ensures.value in
     (λ i. sym c.if-not-has_versions.false i && sym c.if-may_have_version.true i && own i)
     ∙ asks-is (platform_of g.P.Platform) demangle db c.args.resolved.now l s x c.has_versions.result c.may_have_version.result is (c.has_versions.ensures demangle l.stage.rules is.rules) may

@@ -19,6 +19,14 @@ pub returns-clause-added : goal.returns-clause-added
 returns-clause-added g c = λ l is sections.
     c.in_ok-undefined.ensures.added l (subst (λ (k : Known). IsSettled (seen c.args.db.now) k l) (sym (ap (λ (r : Resolving). r.known) c.self.view_is)) is) sections
 
+pub returns-clause-mapping : goal.returns-clause-mapping
+returns-clause-mapping g c = λ l is sections.
+    c.in_ok-undefined.ensures.mapping l (subst (λ (k : Known). IsSettled (seen c.args.db.now) k l) (sym (ap (λ (r : Resolving). r.known) c.self.view_is)) is) sections
+
+pub returns-clause-meanings : goal.returns-clause-meanings
+returns-clause-meanings g c = λ l is sections.
+    c.in_ok-undefined.ensures.meanings l (subst (λ (k : Known). IsSettled (seen c.args.db.now) k l) (sym (ap (λ (r : Resolving). r.known) c.self.view_is)) is) sections
+
 pub returns-clause-undefined : goal.returns-clause-undefined
 returns-clause-undefined g c = λ l is sections.
     c.in_ok-undefined.ensures.undefined l (subst (λ (k : Known). IsSettled (seen c.args.db.now) k l) (sym (ap (λ (r : Resolving). r.known) c.self.view_is)) is) sections

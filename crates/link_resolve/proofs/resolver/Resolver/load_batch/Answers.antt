@@ -5,18 +5,13 @@ use Rattle.link_db_files.specs.Inputs.{objects_in}
 use Rattle.link_rules.specs.Comdat.{loaded_regular}
 use Rattle.link_rules.specs.Places.{first_of}
 use Rattle.link_resolve_extraction.specs.Requests.{requests_of}
-use Rattle.link_claim.specs.Seats.{claimed_in}
-use Rattle.link_closure.specs.declared.workload.Workload.{Workload}
 use Rattle.link_flags.specs.FlagWords.{numbers_of, words_of}
 use Rattle.link_db_texts.specs.Causes.{TellsCause}
 use Rattle.link_db_texts.specs.Holds.{platform_of}
 use Rattle.link_rules.specs.Refusals.{empty_refusal, group_cause, group_refusal}
-use Rattle.link_rules.specs.Marking.{marked_flags}
 use Rattle.link_rules.specs.Selection.{selection_of}
-use Rattle.link_rules.specs.Work.{workload_of}
 use Rattle.link_rules.proofs.WorldOnce.{one-loaded}
-use Rattle.link_resolve_extraction.specs.Planned.{opening_of}
-use Rattle.link_resolve_extraction.proofs.AnswerFlags.{claimed-are, closed-length, flags-are, work-is}
+use Rattle.link_resolve_extraction.proofs.AnswerFlags.{closed-length}
 use Rattle.link_db.proofs.Causes.{neither, tells-other, tells-through}
 use Rattle.link_db_symbols.specs.Lookups.{AreBelow}
 use Rattle.link_resolve_extraction.specs.Answer.{AreFoundBelow}
@@ -24,12 +19,13 @@ use Rattle.link_resolve_extraction.specs.declared.found.FoundItem.{FoundItem}
 use Rattle.link_db.specs.Database.{symbol_names}
 use Rattle.link_db.specs.Seen.{seen}
 use Rattle.link_resolve.specs.Resolving.{Resolving}
-use Rattle.link_resolve.proofs.Loaded.{all-named, is-loaded-selection, not-empty, opened, read-as}
+use Rattle.link_resolve.proofs.Loaded.{is-loaded-selection, not-empty, opened, read-as}
+use Rattle.link_resolve.proofs.Reading.{marked-at, requests-at, work-at}
 use Rattle.link_resolve.proofs.resolver.Resolver.load_batch.Goals as goal
 
 -- a section of a newly loaded object that is a member twice
 pub returns-in_err-check_groups-clause-cause : goal.returns-in_err-check_groups-clause-cause
-returns-in_err-check_groups-clause-cause g c = λ demangle w at fine marks loaded.
+returns-in_err-check_groups-clause-cause g c = λ demangle w at marks loaded fine.
     let is = opened c.self.view_is at in
     let objects = is.stage.objects ∙ ap (λ (f : HeldFiles g.row.P.Denot). objects_in f.groups) (sym c.files.ensures) in
     let same : c.deref.result.now ≡ marks = c.deref.ensures.value ∙ one-loaded w _ marks (c.in_ok-found.ensures.loaded demangle w is) loaded in
@@ -43,7 +39,7 @@ returns-in_err-check_groups-clause-cause g c = λ demangle w at fine marks loade
 
 -- neither cause
 pub returns-clause-cause : goal.returns-clause-cause
-returns-clause-cause g c = λ demangle w at fine marks loaded.
+returns-clause-cause g c = λ demangle w at marks loaded fine.
     let is = opened c.self.view_is at in
     let objects = is.stage.objects ∙ ap (λ (f : HeldFiles g.row.P.Denot). objects_in f.groups) (sym c.files.ensures) in
     let same : c.deref.result.now ≡ marks = c.deref.ensures.value ∙ one-loaded w _ marks (c.in_ok-found.ensures.loaded demangle w is) loaded in
@@ -72,38 +68,34 @@ returns-clause-targets g c =
     c.in_ok-add_batch.ensures.below n (subst (λ (r : Resolving). AreBelow n r.known.targets) (sym c.self.view_is) c.requires.targets) found
 
 -- the flags are the words' own
-pub returns-clause-flags : goal.returns-clause-flags
-returns-clause-flags g c = λ demangle w at marks loaded before.
-    let is = opened c.self.view_is at in
-    let db = seen c.args.db.now in
-    let numbers = numbers_of (words_of c.args.flags.now) in
-    let words = c.in_ok-found.found.closed in
-    let work = c.in_ok-found.ensures.work demangle w is in
-    let of_stage = work ∙ ap (λ n. record (workload_of w) { opening = opening_of n numbers }) (all-named db c.requires.listed.added ∙ ap length (sym is.stage.symbols)) in
-    c.write_flags.ensures.flags
-    ∙ (flags-are w numbers words is.orderly before of_stage c.in_ok-found.ensures.closed
-    ∙ ap (λ (ms : List Bool). marked_flags (selection_of w ms)) (one-loaded w (claimed_in words) marks (claimed-are w _ words is.orderly work c.in_ok-found.ensures.closed) loaded))
+pub returns-clause-marked : goal.returns-clause-marked
+returns-clause-marked g c = λ demangle w at marks loaded.
+    marked-at (platform_of g.P.Platform) demangle (seen c.args.db.now) _ w (numbers_of (words_of c.args.flags.now)) (numbers_of (words_of c.write_flags.new.flags)) c.args.workers c.in_ok-found.found.loaded.items marks
+    c.in_ok-found.found.read c.requires.listed.added (opened c.self.view_is at) loaded c.in_ok-found.ensures.read c.write_flags.ensures.flags
 
 pub returns-clause-work : goal.returns-clause-work
-returns-clause-work g c = λ demangle w at before.
-    let is = opened c.self.view_is at in
-    let db = seen c.args.db.now in
-    let numbers = numbers_of (words_of c.args.flags.now) in
-    let words = c.in_ok-found.found.closed in
-    let of_stage = c.in_ok-found.ensures.work demangle w is ∙ ap (λ n. record (workload_of w) { opening = opening_of n numbers }) (all-named db c.requires.listed.added ∙ ap length (sym is.stage.symbols)) in
-    work-is w numbers words is.orderly before of_stage c.in_ok-found.ensures.closed
+returns-clause-work g c = λ demangle w at held.
+    work-at (platform_of g.P.Platform) demangle (seen c.args.db.now) _ w (numbers_of (words_of c.args.flags.now)) c.args.workers c.in_ok-found.found.loaded.items
+    c.in_ok-found.found.read c.requires.listed.added (opened c.self.view_is at) c.in_ok-found.ensures.read held
 
-pub returns-clause-words : goal.returns-clause-words
-returns-clause-words g c = closed-length c.in_ok-found.found.closed (words_of c.args.flags.now) (words_of c.write_flags.new.flags) c.write_flags.ensures.flags
+pub returns-clause-flags : goal.returns-clause-flags
+returns-clause-flags g c = closed-length c.in_ok-found.found.read.closed (words_of c.args.flags.now) (words_of c.write_flags.new.flags) c.write_flags.ensures.flags
 
 pub returns-clause-requests : goal.returns-clause-requests
 returns-clause-requests g c = λ demangle w at marks loaded.
     let is = opened c.self.view_is at in
     let found = c.in_ok-found.found in
-    c.in_ok-found.ensures.requests
-    ∙ (ap (λ (k : Workload). requests_of k found.loaded.items) (c.in_ok-found.ensures.work demangle w is)
-    ∙ ap (λ (ms : List Bool). requests_of (workload_of w) ms) (one-loaded w found.loaded.items marks (c.in_ok-found.ensures.loaded demangle w is) loaded))
+    requests-at (platform_of g.P.Platform) demangle (seen c.args.db.now) _ w (numbers_of (words_of c.args.flags.now)) c.args.workers found.loaded.items marks
+    found.read is (one-loaded w found.loaded.items marks (c.in_ok-found.ensures.loaded demangle w is) loaded) c.in_ok-found.ensures.read
 
 pub returns-clause-counted : goal.returns-clause-counted
 returns-clause-counted g c =
-    c.in_ok-found.ensures.requests ∙ ap (λ (ms : List Bool). requests_of c.in_ok-found.found.closed.view.work ms) (sym c.in_ok-add_batch.ensures.marks)
+    let found = c.in_ok-found.found in
+    let counted = c.in_ok-found.ensures.read.counted in
+    record {
+      requests = counted.requests ∙ ap (λ (ms : List Bool). requests_of found.read.closed.view.work ms) (sym c.in_ok-add_batch.ensures.marks);
+      readers = counted.readers;
+    }
+
+pub returns-clause-read : goal.returns-clause-read
+returns-clause-read g c = c.in_ok-found.ensures.read.all
