@@ -1,15 +1,14 @@
 -- A link to which batches come, one after another.
-use Rattle.std.proofs.Common.{append-nil, length-append, map, ◌≡◌, ◌∙◌, ◌⊎◌, ◌<◌, ◌≤◌, ◌++◌, List, [], ◌∷◌, append_assoc, false, Err, inl, inr, refl, sym, ap, subst, arith, length}
+use Rattle.std.proofs.Common.{◌≡◌, ◌∙◌, ◌⊎◌, ◌<◌, ◌≤◌, ◌++◌, List, [], ◌∷◌, Some, append_assoc, false, Err, inl, inr, refl, sym, ap, subst, arith, length}
 use Rattle.std.specs.List.{flat_map}
-use Rattle.std.proofs.lemmas.List.{length-map}
+use Rattle.std.specs.Option.{IsSomeAnd}
 use Rattle.link_flags.specs.declared.value_flags.RawFlags.{RawFlags}
 use Rattle.link_flags.specs.FlagWords.{numbers_of}
 use Rattle.link_db_files.specs.Inputs.{objects_in}
 use Rattle.link_input_groups.specs.Held.{AreGroupsOf}
 use Rattle.link_input.specs.declared.options.Options.{Options}
 use Rattle.link_input.specs.declared.world.Scripts.{Scripts}
-use Rattle.link_input.specs.declared.world.Inputs.{Inputs}
-use Rattle.link_input.specs.InputFiles.{Batch, batch_of}
+use Rattle.link_input.specs.InputFiles.{Batch}
 use Rattle.link_input.specs.ObjectFile.{ObjectFile}
 use Rattle.link_rules.specs.declared.refusal.LinkError.{LinkError}
 use Rattle.link_rules.specs.declared.refusal.LinkError.TheVariants.{Memory}
@@ -22,16 +21,17 @@ use Rattle.link_rules.specs.World.{Stage, World, start_of, world_of}
 use Rattle.link_db.specs.Database.{Database}
 use Rattle.link_resolve.specs.Known.{Known}
 use Rattle.link_resolve.specs.Resolving.{Resolving}
-use Rattle.link_core.specs.Given.{given_in_batches, world_after}
-use Rattle.link_core.specs.Steps.{HasRoom, IsBefore, IsHeld, IsHeldAt, IsLoadedWith, IsOpenWith, IsReady, IsRefusedWith}
+use Rattle.link_core.specs.Given.{given_in_batches, world_of_batches}
+use Rattle.link_core.specs.Results.{IsRefusedFor}
+use Rattle.link_core.specs.Steps.{HasRoom, IsBefore, IsHeldAt, IsLoadedWith, IsOpenWith, IsReady}
 use Rattle.link_core.proofs.Batches.{fails-behind}
 use Rattle.link_core.proofs.Passing.{before-first, before-next, few-known, ready-next}
 use Rattle.link_core.proofs.Refusing.{refused-by-batch}
 
--- why the link of some batches is refused
-abbrev pub IsRefusedOf : PlatformRules → (Bytes → Bytes) → Options → Scripts → LinkError → List Batch → Type 0
-IsRefusedOf platform demangle options texts e [] = ⊥
-IsRefusedOf platform demangle options texts e (b ∷ bs) = IsRefusedWith (world_of platform demangle (given_in_batches b bs options texts)) e
+-- the world of these batches with one more, on a platform and with a demangler
+abbrev pub world_after : PlatformRules → (Bytes → Bytes) → Options → Scripts → List Batch → Batch → World
+world_after platform demangle options texts [] b = world_of platform demangle (given_in_batches b [] options texts)
+world_after platform demangle options texts (f ∷ fs) b = world_of platform demangle (given_in_batches f (fs ++ b ∷ []) options texts)
 
 module _ {P : Type 0} (platform : PlatformRules) (demangle : Bytes → Bytes) (options : Options) (texts : Scripts) where
   -- what follows for one batch more, of whatever world it is the last
@@ -75,62 +75,37 @@ module _ {P : Type 0} (platform : PlatformRules) (demangle : Bytes → Bytes) (o
       let found = for-next (f ∷ fs) b db words r (λ w. (l : Selection) × IsHeldAt platform demangle w l new (numbers_of after) next) came gives in
       record { selection = found.0; held = found.1; room = room }
 
-  -- a cause that one batch more brings ends the link of all batches, whatever comes behind it
+  -- a cause that one batch more brings is that of the link of all batches, whatever comes behind it
   pub fails-open : (done : List Batch) (b : Batch) (more : List Batch) (db : Database P) (words : List RawFlags) (r : Resolving) (e : LinkError)
-      → IsOpenWith platform demangle options texts done db words r → ForNext b db words r.known (λ w. BatchesEnd w (Err e) ⊎ (e ≡ Memory)) → IsRefusedOf platform demangle options texts e (done ++ b ∷ more)
-  fails-open [] b more db words r e came gives = by (for-next [] b db words r (λ w. BatchesEnd w (Err e) ⊎ (e ≡ Memory)) came gives)
-    where
-      by : BatchesEnd (world_after platform demangle options texts [] b) (Err e) ⊎ (e ≡ Memory) → IsRefusedOf platform demangle options texts e (b ∷ more)
-      by (inr memory) = inr memory
-      by (inl ends) = inl (refused-by-batch (world_of platform demangle (given_in_batches b more options texts)) e (came.texts_read b more)
-          (fails-behind false (start_of (world_after platform demangle options texts [] b)) b [] more e ends))
-  fails-open (f ∷ fs) b more db words r e came gives = by (for-next (f ∷ fs) b db words r (λ w. BatchesEnd w (Err e) ⊎ (e ≡ Memory)) came gives)
-    where
-      by : BatchesEnd (world_after platform demangle options texts (f ∷ fs) b) (Err e) ⊎ (e ≡ Memory) → IsRefusedOf platform demangle options texts e (f ∷ (fs ++ b ∷ more))
-      by (inr memory) = inr memory
-      by (inl ends) = inl (refused-by-batch (world_of platform demangle (given_in_batches f (fs ++ b ∷ more) options texts)) e came.held.loaded.selects.texts
-          (subst (λ (bs : List Batch). EndsWith false (start_of (world_after platform demangle options texts (f ∷ fs) b)) f bs (Err e)) (append_assoc fs (b ∷ []) more)
-          (fails-behind false (start_of (world_after platform demangle options texts (f ∷ fs) b)) f (fs ++ b ∷ []) more e ends)))
+      → IsOpenWith platform demangle options texts done db words r → IsSomeAnd (world_of_batches platform demangle options texts (done ++ b ∷ [])) (λ w. BatchesEnd w (Err e)) ⊎ (e ≡ Memory)
+      → IsRefusedFor platform demangle options texts (done ++ b ∷ more) e ⊎ (e ≡ Memory)
+  fails-open done b more db words r e came (inr memory) = inr memory
+  fails-open [] b more db words r e came (inl ends) =
+      inl (refused-by-batch (world_of platform demangle (given_in_batches b more options texts)) e (came.texts_read b more)
+      (fails-behind false (start_of (world_of platform demangle (given_in_batches b [] options texts))) b [] more e ends))
+  fails-open (f ∷ fs) b more db words r e came (inl ends) =
+      let start = start_of (world_of platform demangle (given_in_batches f (fs ++ b ∷ []) options texts)) in
+      inl (refused-by-batch (world_of platform demangle (given_in_batches f (fs ++ b ∷ more) options texts)) e came.held.loaded.selects.texts
+      (subst (λ (bs : List Batch). EndsWith false start f bs (Err e)) (append_assoc fs (b ∷ []) more) (fails-behind false start f (fs ++ b ∷ []) more e ends)))
 
-  -- all batches of a list are those that came, where none is left
-  pub held-all : (done : List Batch) (first : Batch) (later : List Batch) (db : Database P) (words : List RawFlags) (r : Resolving) → done ≡ first ∷ later
-      → IsOpenWith platform demangle options texts done db words r → IsHeld platform demangle (world_of platform demangle (given_in_batches first later options texts)) db words r
-  held-all done first later db words r is came = subst (λ (bs : List Batch). IsOpenWith platform demangle options texts bs db words r) is came
-
-  -- what is so at the end, where some batch came: there is room for the rest
+  -- what is so where some batch came: their world is linked so far, and there is room for the rest
   pub record Ends (done : List Batch) (db : Database P) (words : List RawFlags) (r : Resolving) : Type 0 where
     pub world : World
+    pub is : world_of_batches platform demangle options texts done ≡ Some world
     pub selection : Selection
     pub loaded : IsLoadedWith platform demangle world selection db (numbers_of words) r
+    pub options_are : db.options ≡ options
     pub objects : selection.stage.objects ≡ flat_map (λ (b : Batch). b.objects) done
     pub room : HasRoom db words
 
-  pub ends-open : (done : List Batch) (all : List (Inputs P)) (db : Database P) (words : List RawFlags) (r : Resolving) → done ≡ map batch_of all → 1 ≤ length all
-      → IsOpenWith platform demangle options texts done db words r → Ends done db words r
-  ends-open [] all db words r is some came =
-      let none = ap (λ (bs : List Batch). length bs) is in
-      let many = length-map all (batch_of {P = P}) in
-      absurd (omega (arith, none, many, some))
-  ends-open (f ∷ fs) all db words r is some came = record {
+  pub ends-open : (done : List Batch) (db : Database P) (words : List RawFlags) (r : Resolving) → 0 < length done → IsOpenWith platform demangle options texts done db words r → Ends done db words r
+  ends-open [] db words r some came = absurd (omega (arith, some))
+  ends-open (f ∷ fs) db words r some came = record {
     world = world_of platform demangle (given_in_batches f fs options texts);
+    is = refl;
     selection = came.selection;
     loaded = came.held.loaded;
+    options_are = sym came.held.loaded.selection.stage.options ∙ came.held.files.options_are;
     objects = came.held.files.objects;
     room = came.room;
   }
-
--- fewer came than there are, where one is left
-pub few-left : {P : Type 0} (done : List Batch) (rest all : List (Inputs P)) (x : Inputs P) (others : List (Inputs P)) → done ++ map batch_of rest ≡ map batch_of all → rest ≡ x ∷ others
-    → length all ≤ 256 → length done < 256
-few-left {P} done rest all x others is left most =
-    let whole = ap (λ (bs : List Batch). length bs) is in
-    let both = length-append done (map (batch_of {P = P}) rest) in
-    let of_rest = length-map rest (batch_of {P = P}) in
-    let of_all = length-map all (batch_of {P = P}) in
-    let one = ap (λ (xs : List (Inputs P)). length xs) left in
-    omega (arith, whole, both, of_rest, of_all, one, most)
-
--- all came where none is left
-pub all-came : {P : Type 0} (done : List Batch) (rest all : List (Inputs P)) → length rest ≡ 0 → done ++ map batch_of rest ≡ map batch_of all → done ≡ map batch_of all
-all-came done [] all none is = sym (append-nil done) ∙ is
-all-came done (x ∷ xs) all none is = absurd (omega (arith, none))

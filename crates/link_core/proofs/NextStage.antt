@@ -27,6 +27,7 @@ use Rattle.link_rules.specs.Places.{Bytes, each_from, is_empty}
 use Rattle.link_rules.specs.Refusals.{counts_at, first_cause, linker_script_cause, too_many}
 use Rattle.link_rules.specs.Rules.{PlatformRules, rules_of, taken_text}
 use Rattle.link_rules.specs.World.{Stage, World, nothing_earlier, with_batch}
+use Rattle.link_script_syntax.specs.declared.profile.ScriptProfile.{ScriptProfile}
 use Rattle.link_db_texts.specs.Holds.{HoldsTexts}
 use Rattle.link_db_texts.specs.ReadTexts.{ReadTexts}
 use Rattle.link_db_mapping.specs.Mapped.{AreListed, mapping_of}
@@ -59,8 +60,8 @@ all-files platform demangle w done b before is =
     subst (λ (bs : List Batch). HasFilesOf w.options bs (with_batch before b)) (sym is.batches) (files-more w.options done b before is.files)
 
 -- the causes of the inputs, by what was read of texts and by the counts of files
-abbrev cause_by : Bool → Bool → ℕ → Counts → List ProcessedLinkerScript → Option LinkError
-cause_by is_late is_taken n counts scripts = first_cause (linker_script_cause is_late is_taken n scripts ∷ too_many (first_excess counts) ∷ [])
+abbrev cause_by : ScriptProfile → Bool → Bool → ℕ → Counts → List ProcessedLinkerScript → Option LinkError
+cause_by profile is_late is_taken n counts scripts = first_cause (linker_script_cause profile is_late is_taken n scripts ∷ too_many (first_excess counts) ∷ [])
 
 -- the causes that the files of a batch bring to the database are those of the batch
 pub inputs-same : {P : Type 0} (platform : PlatformRules) (demangle : Bytes → Bytes) (w : World) (done : List Batch) (b : Batch) (before : Stage) (db : Database P) (numbers : List ℕ) (known : Known)
@@ -70,11 +71,14 @@ inputs-same {P} platform demangle w done b before db numbers known is ready =
     let scripts = length (flat_map (λ (x : Batch). x.scripts) done) in
     let taken : db.rules.is_taken ≡ is_some (taken_text before.texts before.scripts) =
     ready.holds.taken ∙ (sym is.taken ∙ ap (λ texts. is_some (taken_text texts before.scripts)) (sym is.texts_are)) in
-    ap (λ (t : Bool). cause_by is_late t scripts (counts_of db.options (done ++ b ∷ [])) b.scripts) taken
-    ∙ (ap (λ (o : Options). cause_by is_late (is_some (taken_text before.texts before.scripts)) scripts (counts_of o (done ++ b ∷ [])) b.scripts) ready.options
-    ∙ (ap (λ (counts : Counts). cause_by is_late (is_some (taken_text before.texts before.scripts)) scripts counts b.scripts)
+    let profile : db.rules.profile ≡ before.options.script_profile =
+    ready.holds.profile ∙ ap (λ (o : Options). o.script_profile) (sym is.files.options_are) in
+    ap (λ (t : Bool). cause_by db.rules.profile is_late t scripts (counts_of db.options (done ++ b ∷ [])) b.scripts) taken
+    ∙ (ap (λ (p : ScriptProfile). cause_by p is_late (is_some (taken_text before.texts before.scripts)) scripts (counts_of db.options (done ++ b ∷ [])) b.scripts) profile
+    ∙ (ap (λ (o : Options). cause_by before.options.script_profile is_late (is_some (taken_text before.texts before.scripts)) scripts (counts_of o (done ++ b ∷ [])) b.scripts) ready.options
+    ∙ (ap (λ (counts : Counts). cause_by before.options.script_profile is_late (is_some (taken_text before.texts before.scripts)) scripts counts b.scripts)
     (sym (counts-are w.options (done ++ b ∷ []) (with_batch before b) (files-more w.options done b before is.files)))
-    ∙ ap (λ (ss : List ProcessedLinkerScript). cause_by is_late (is_some (taken_text before.texts before.scripts)) (length ss) (counts_at (with_batch before b)) b.scripts) (sym is.files.scripts)))
+    ∙ ap (λ (ss : List ProcessedLinkerScript). cause_by before.options.script_profile is_late (is_some (taken_text before.texts before.scripts)) (length ss) (counts_at (with_batch before b)) b.scripts) (sym is.files.scripts))))
 
 -- ---- the stage
 

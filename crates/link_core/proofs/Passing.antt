@@ -17,10 +17,9 @@ use Rattle.link_resolve_discarded.specs.Indexed.{AreGroupsOf}
 use Rattle.link_db_files.specs.GroupFiles.{symbols_in}
 use Rattle.link_db_files.specs.HeldFiles.{names_in}
 use Rattle.link_db_files.specs.Inputs.{objects_in}
-use Rattle.link_input_groups.specs.Held as held
 use Rattle.link_rules.specs.declared.refusal.LinkError.{LinkError}
 use Rattle.link_rules.specs.declared.refusal.LinkError.TheVariants.{Memory}
-use Rattle.link_rules.specs.Answer.{BatchesEnd, EndsWith, IsRefused}
+use Rattle.link_rules.specs.Answer.{EndsWith}
 use Rattle.link_rules.specs.FinalFlags.{final_flags}
 use Rattle.link_rules.specs.Loading.{IsLoaded}
 use Rattle.link_rules.specs.Marking.{ended, marked_flags}
@@ -36,17 +35,17 @@ use Rattle.link_rules.specs.World.{Earlier, Stage, World, start_of, with_batch}
 use Rattle.link_rules.proofs.Files.{starts}
 use Rattle.link_rules.proofs.Stages.{orderly-grows, orderly-start, orderly-stays}
 use Rattle.link_db_texts.specs.Causes.{TellsCause}
+use Rattle.link_script_syntax.specs.declared.profile.ScriptProfile.{ScriptProfile}
 use Rattle.link_db_texts.specs.Holds.{AreRulesOf, HoldsTexts}
 use Rattle.link_db_texts.specs.ReadTexts.{ReadTexts}
-use Rattle.link_db_mapping.specs.Mapped.{AreListed, Mapped}
+use Rattle.link_db_mapping.specs.Mapped.{AreListed, Mapped, mapping_of}
 use Rattle.link_db_symbols.specs.Lookups.{AreBelow}
 use Rattle.link_db.specs.Database.{Database, HasTable, no_names, symbol_names}
 use Rattle.link_resolve.specs.Known.{IsLoadedSelection, IsSelection, Known}
 use Rattle.link_resolve.specs.Resolving.{IsNextStage, Resolving, loading_cause, nothing_known, with_groups}
-use Rattle.link_resolve.specs.Settled.{IsSettled}
+use Rattle.link_resolve.specs.Settled.{IsSettled, meaning_at_end}
 use Rattle.link_flags.specs.declared.strength.SymbolStrength.{SymbolStrength}
-use Rattle.link_core.specs.Given.{with_one_more}
-use Rattle.link_core.specs.Steps.{HasRoom, HasRules, IsAdded, IsBefore, IsEndedWith, IsHeldAt, IsLoadedWith, IsPointedWith, IsReady, IsRefusedWith, IsSettledWith, IsSteady, first_scripts, inputs_refusal}
+use Rattle.link_core.specs.Steps.{HasRoom, HasRules, IsAdded, IsBefore, IsEndedWith, IsHeldAt, IsLoadedWith, IsPointedWith, IsReady, IsSettledWith, IsSteady, first_scripts, inputs_refusal}
 use Rattle.link_core.proofs.NextStage.{all-files}
 use Rattle.link_core.proofs.Batches.{ends-behind, first-none, links-loaded, second-none}
 
@@ -66,23 +65,23 @@ room-kept {P} old new before after files options whole words room =
 -- ---- one batch more
 
 -- no linker script of a late batch that is accepted has a version text
-no-versions : (taken : Bool) (i : ℕ) (scripts : List ProcessedLinkerScript) → linker_script_cause true taken i scripts ≡ None → filter_map (λ (s : ProcessedLinkerScript). s.version) scripts ≡ []
-no-versions taken i [] none = refl
-no-versions taken i (s ∷ ss) none = by s.version refl (λ t n. no-versions t n ss)
+no-versions : (profile : ScriptProfile) (taken : Bool) (i : ℕ) (scripts : List ProcessedLinkerScript) → linker_script_cause profile true taken i scripts ≡ None → filter_map (λ (s : ProcessedLinkerScript). s.version) scripts ≡ []
+no-versions profile taken i [] none = refl
+no-versions profile taken i (s ∷ ss) none = by s.version refl (λ t n. no-versions profile t n ss)
   where
-    never : (b : Bool) (rest : Option LinkError) (x : Bytes) → option_or (version_text_cause true b i x) rest ≡ None → ⊥
+    never : (b : Bool) (rest : Option LinkError) (x : Bytes) → option_or (version_text_cause profile true b i x) rest ≡ None → ⊥
     never true rest x is = cc
     never false rest x is = cc
 
     by : (o : Option Bytes) → s.version ≡ o
-        → ((t : Bool) (n : ℕ) → linker_script_cause true t n ss ≡ None → filter_map (λ (x : ProcessedLinkerScript). x.version) ss ≡ [])
+        → ((t : Bool) (n : ℕ) → linker_script_cause profile true t n ss ≡ None → filter_map (λ (x : ProcessedLinkerScript). x.version) ss ≡ [])
         → filter_map (λ (x : ProcessedLinkerScript). x.version) (s ∷ ss) ≡ []
     by None is others =
-        let rest : linker_script_cause true (taken || false) (i + 1) ss ≡ None = sym (ap (λ (o : Option Bytes). option_or (option_and_then (version_text_cause true taken i) o) (linker_script_cause true (taken || is_some o) (i + 1) ss)) is) ∙ none in
+        let rest : linker_script_cause profile true (taken || false) (i + 1) ss ≡ None = sym (ap (λ (o : Option Bytes). option_or (option_and_then (version_text_cause profile true taken i) o) (linker_script_cause profile true (taken || is_some o) (i + 1) ss)) is) ∙ none in
         ap (λ (o : Option Bytes). cons_option o (filter_map (λ (x : ProcessedLinkerScript). x.version) ss)) is ∙ others (taken || false) (i + 1) rest
     by (Some x) is others =
-        absurd (never taken (linker_script_cause true (taken || true) (i + 1) ss) x
-        (sym (ap (λ (o : Option Bytes). option_or (option_and_then (version_text_cause true taken i) o) (linker_script_cause true (taken || is_some o) (i + 1) ss)) is) ∙ none))
+        absurd (never taken (linker_script_cause profile true (taken || true) (i + 1) ss) x
+        (sym (ap (λ (o : Option Bytes). option_or (option_and_then (version_text_cause profile true taken i) o) (linker_script_cause profile true (taken || is_some o) (i + 1) ss)) is) ∙ none))
 
 -- the script that is taken stays the same where no version text comes
 taken-same : (texts : Scripts) (before more : List ProcessedLinkerScript) → filter_map (λ (s : ProcessedLinkerScript). s.version) more ≡ [] → taken_text texts (before ++ more) ≡ taken_text texts before
@@ -108,7 +107,7 @@ taken-more platform demangle w done b before is none = by done is.batches is.fil
         ap (λ (ss : List ProcessedLinkerScript). is_some (taken_text w.texts (ss ++ b.scripts))) scripts
         ∙ ap (λ (c : Batch). is_some (taken_text w.texts c.scripts)) (sym (first-is w.first b w.later [] batches))
     by (c ∷ cs) batches scripts taken fine =
-        let free = no-versions (is_some (taken_text before.texts before.scripts)) (length before.scripts) b.scripts (first-none _ _ fine) in
+        let free = no-versions before.options.script_profile (is_some (taken_text before.texts before.scripts)) (length before.scripts) b.scripts (first-none _ _ fine) in
         ap (λ (o : Option Bytes). is_some o) (taken-same w.texts before.scripts b.scripts free)
         ∙ (taken ∙ ap (λ (x : Batch). is_some (taken_text w.texts x.scripts)) (sym (first-is w.first c w.later (cs ++ b ∷ []) batches)))
 
@@ -156,6 +155,10 @@ held-next platform demangle w done b before db read flags r marks is added none 
       groups = added.groups;
       holds = added.holds;
     }
+
+-- a world with one batch more
+abbrev pub with_one_more : World → Batch → World
+with_one_more w b = record w { later = w.later ++ b ∷ [] }
 
 -- another batch may come behind those that are held
 pub before-next : {P : Type 0} (platform : PlatformRules) (demangle : Bytes → Bytes) (w : World) (b : Batch) (l : Selection) (db : Database P) (numbers : List ℕ) (r : Resolving)
@@ -272,6 +275,7 @@ settled-with {P} platform demangle w l old left before flags r loaded none settl
   selects = loaded.selects;
   duplicates = none;
   settled = settled;
+  known = λ i. record { marks = sym loaded.selection.marks i; targets = sym loaded.selection.targets i; strengths = sym loaded.selection.strengths i };
   rules = subst (λ (read : ReadTexts). AreRulesOf platform demangle read l.stage.rules) (sym rules) loaded.selection.stage.rules;
   groups = loaded.groups;
   table = table;
@@ -284,9 +288,10 @@ pub ended-with : {P : Type 0} (platform : PlatformRules) (demangle : Bytes → B
     → objects_in new.mapping.files.groups ≡ objects_in old.mapping.files.groups → new.options ≡ old.options → new.rules ≡ old.rules
     → new.table ≡ final_table l
     → new.mapping.files.added ≡ map (λ m. m.1.name) (boundary_makers l.stage (left_undefined l))
+    → ((name : Bytes) → mapping_of new.mapping name ≡ meaning_at_end l name)
     → flags ≡ final_flags (resolved l)
     → IsEndedWith platform demangle w l new flags r
-ended-with {P} platform demangle w l old new before flags r is symbols objects options rules table added final = record {
+ended-with {P} platform demangle w l old new before flags r is symbols objects options rules table added names final = record {
   selects = is.selects;
   duplicates = is.duplicates;
   ended = record {
@@ -299,6 +304,13 @@ ended-with {P} platform demangle w l old new before flags r is symbols objects o
   objects = is.settled.objects ∙ sym objects;
   groups = is.groups;
   added = added;
+  kept = record {
+    options = sym (is.settled.options ∙ sym options);
+    symbols = sym (is.settled.symbols ∙ sym symbols);
+    names = names;
+    known_is = is.known;
+    groups_are = subst (λ (ms : List Bool). AreGroupsOf ms l.stage.objects r.groups) (ap (λ (k : Known). k.marks) is.known) is.groups;
+  };
   flags = final;
 }
 
@@ -319,13 +331,7 @@ pub err-into : {A E : Type 0} (r : Result A E) (P Q : E → Type 0) → ((e : E)
 err-into (Ok x) P Q into held = tt
 err-into (Err e) P Q into held = into e held
 
--- a batch ends a link by the cause that a call tells, if it ends by that
-pub ended-by : (A : Type 0) (w : World) (cause : Option LinkError) (e : LinkError) → (cause ≡ Some e → BatchesEnd w (Err e)) → TellsCause {A = A} cause (Err e)
-    → BatchesEnd w (Err e) ⊎ (e ≡ Memory)
-ended-by A w cause e ends (inl memory) = inr memory
-ended-by A w cause e ends (inr is) = inl (ends is)
-
--- a world is refused by the cause that a call tells, if that is why it is refused
-pub refused-by : (A : Type 0) (w : World) (cause : Option LinkError) (e : LinkError) → (cause ≡ Some e → IsRefused w e) → TellsCause {A = A} cause (Err e) → IsRefusedWith w e
-refused-by A w cause e refuses (inl memory) = inr memory
-refused-by A w cause e refuses (inr is) = inl (refuses is)
+-- what follows from a cause follows where a call tells it, unless memory ran out
+pub told-by : (A Follows : Type 0) (cause : Option LinkError) (e : LinkError) → (cause ≡ Some e → Follows) → TellsCause {A = A} cause (Err e) → Follows ⊎ (e ≡ Memory)
+told-by A Follows cause e follows (inl memory) = inr memory
+told-by A Follows cause e follows (inr is) = inl (follows is)

@@ -1,35 +1,45 @@
--- A session: what is so of it behind each call, and how its calls tell why they refuse.
-use Rattle.std.proofs.Common.{◌≡◌, ◌∙◌, ◌⊎◌, ◌<◌, ◌++◌, List, [], ◌∷◌, Some, Result, Ok, Err, inl, inr, refl, sym, ap, subst, arith, length, map}
-use Rattle.std.specs.Prelude.{IfErr, IfSome}
+-- A link that stands: what is so of it behind each call, and how the calls of a session tell why they refuse.
+use Rattle.std.proofs.Common.{◌≡◌, ◌∙◌, ◌⊎◌, ◌<◌, ◌≤◌, ◌++◌, List, [], ◌∷◌, Option, Result, Ok, Err, append-nil, inl, inr, refl, sym, ap, subst, arith, length, length-append, map}
+use Rattle.std.specs.Prelude.{IfErr}
+use Rattle.std.specs.Option.{IsSomeAnd}
 use Rattle.std.specs.Result.{IsErrAnd}
+use Rattle.std.proofs.lemmas.List.{length-map}
 use Rattle.link_flags.specs.declared.value_flags.RawFlags.{RawFlags}
-use Rattle.link_flags.specs.FlagWords.{numbers_of}
+use Rattle.link_flags.specs.FlagWords.{numbers_of, words_of}
 use Rattle.link_input_groups.specs.Held.{AreGroupsOf}
 use Rattle.link_input.specs.declared.options.Options.{Options}
+use Rattle.link_input.specs.declared.platform.Platform.{Ghosts}
+use Rattle.link_input.specs.declared.world.Inputs.{Inputs}
 use Rattle.link_input.specs.declared.world.Scripts.{Scripts}
-use Rattle.link_input.specs.InputFiles.{Batch}
+use Rattle.link_input.specs.InputFiles.{Batch, batch_of}
+use Rattle.link_db_texts.specs.Causes.{IsGiven, TellsCause}
 use Rattle.link_rules.specs.declared.refusal.LinkError.{LinkError}
 use Rattle.link_rules.specs.declared.refusal.LinkError.TheVariants as link
 use Rattle.link_rules.specs.Answer.{BatchesEnd}
 use Rattle.link_rules.specs.Places.{Bytes}
+use Rattle.link_rules.specs.Refusals.{text_refusal}
 use Rattle.link_rules.specs.Rules.{PlatformRules}
 use Rattle.link_rules.specs.Selection.{Selection}
 use Rattle.link_rules.specs.World.{World, world_of}
 use Rattle.link_db.specs.Database.{Database}
+use Rattle.link_db.specs.Seen.{seen}
 use Rattle.link_resolve.specs.Resolving.{Resolving}
 use Rattle.link_core.specs.declared.batch_size.BatchSize.{BatchSize}
 use Rattle.link_core.specs.declared.session_error.SessionError.{SessionError}
-use Rattle.link_core.specs.Given.{given_in_batches}
+use Rattle.link_core.specs.Given.{given_in_batches, world_of_batches}
+use Rattle.link_core.specs.Results.{IsRefusedFor}
 use Rattle.link_core.specs.SessionErrors.{IsCause, IsToldAs}
-use Rattle.link_core.specs.Sessions.{world_of_batches}
 use Rattle.link_core.specs.Sizes.{batches_in, size_of}
-use Rattle.link_core.specs.Standing.{IsStanding}
-use Rattle.link_core.specs.Steps.{HasRoom, IsHeld, IsHeldAt, IsNew, IsOpenWith, IsSteady}
+use Rattle.link_core.specs.declared.standing_link.StandingLink.{StandingLink}
+use Rattle.link_core.specs.Standing.{IsStanding, Stands, came_to}
+use Rattle.link_core.specs.Steps.{HasRoom, IsHeldAt, IsNew, IsOpenWith, IsSteady, Selects}
 use Rattle.link_core.proofs.Cutting.{one-more-held, one-size-more}
-use Rattle.link_core.proofs.Holding.{ForNext, for-next, groups-open, open-next}
+use Rattle.link_core.proofs.Holding.{Ends, ForNext, ends-open, for-next, groups-open, open-next}
+use Rattle.link_core.proofs.Passing.{told-by}
+use Rattle.link_core.proofs.Refusing.{refused-by-text}
 
 -- such a cause, or want of memory, is told as such a cause
-pub told : (Is : LinkError → Type 0) (e : LinkError) (t : SessionError) → Is e ⊎ (e ≡ link.Memory) → IsToldAs e t → IsCause Is t
+told : (Is : LinkError → Type 0) (e : LinkError) (t : SessionError) → Is e ⊎ (e ≡ link.Memory) → IsToldAs e t → IsCause Is t
 told Is e t given (inl (memory, is)) = subst (λ (x : SessionError). IsCause Is x) (sym is) tt
 told Is e t (inl holds) (inr (other, is)) = subst (λ (x : SessionError). IsCause Is x) (sym is) (holds, other)
 told Is e t (inr memory) (inr (other, is)) = absurd (other memory)
@@ -47,7 +57,7 @@ module _ {P : Type 0} (platform : PlatformRules) (demangle : Bytes → Bytes) (t
       none : Batch
       none = record { objects = []; scripts = []; stubs = [] }
 
-  -- and a session may stand on it
+  -- and the link stands
   pub stands-new : (options : Options) (db : Database P) (words : List RawFlags) (r : Resolving) → IsNew platform demangle options texts db words r.known → IsSteady db words r.known
       → IsStanding platform demangle texts [] db words r
   stands-new options db words r new steady = record {
@@ -56,21 +66,12 @@ module _ {P : Type 0} (platform : PlatformRules) (demangle : Bytes → Bytes) (t
     sizes_are = refl;
   }
 
-  -- where batches came, the options are the database's too
-  options-held : (options : Options) (b : Batch) (bs : List Batch) (db : Database P) (words : List RawFlags) (r : Resolving) → IsOpenWith platform demangle options texts (b ∷ bs) db words r
-      → db.options ≡ options
-  options-held options b bs db words r came = sym came.held.loaded.selection.stage.options ∙ came.held.files.options_are
-
-  options-open : (options : Options) (done : List Batch) (b : Batch) (db : Database P) (words : List RawFlags) (r : Resolving) → IsOpenWith platform demangle options texts (done ++ b ∷ []) db words r
-      → db.options ≡ options
-  options-open options [] b db words r came = options-held options b [] db words r came
-  options-open options (f ∷ fs) b db words r came = options-held options f (fs ++ b ∷ []) db words r came
-
   -- one batch more came, and one size more
   pub record StandsNext (sizes more : List BatchSize) (b : Batch) (db new : Database P) (after : List RawFlags) (next : Resolving) : Type 0 where
     pub standing : IsStanding platform demangle texts more new after next
     pub batches : batches_in more new.mapping.files.groups ≡ batches_in sizes db.mapping.files.groups ++ b ∷ []
     pub options : new.options ≡ db.options
+    pub selects : IsSomeAnd (world_of_batches platform demangle db.options texts (batches_in sizes db.mapping.files.groups ++ b ∷ [])) (λ w. (l : Selection) × Selects w l)
 
   pub stands-next : (sizes more : List BatchSize) (b : Batch) (db new : Database P) (words after : List RawFlags) (r next : Resolving) → more ≡ sizes ++ size_of b ∷ []
       → IsStanding platform demangle texts sizes db words r → HasRoom new after → IsSteady new after next.known
@@ -80,34 +81,56 @@ module _ {P : Type 0} (platform : PlatformRules) (demangle : Bytes → Bytes) (t
   stands-next sizes more b db new words after r next one stands room steady grown gives =
       let done = batches_in sizes db.mapping.files.groups in
       let came = open-next platform demangle db.options texts done b db new words after r next stands.came room gives in
-      let options = options-open db.options done b new after next came in
+      let some : 0 < length (done ++ b ∷ []) = omega (arith, length-append done (b ∷ [])) in
+      let ends = ends-open platform demangle db.options texts (done ++ b ∷ []) new after next some came in
       let held = grown done (groups-open platform demangle db.options texts done db words r stands.came) in
       let cut = ap (λ (ns : List BatchSize). batches_in ns new.mapping.files.groups) one ∙ one-more-held new.options sizes b db.mapping.files.groups new.mapping.files.groups stands.sizes_are held in
       record {
         standing = record {
           came = subst (λ (bs : List Batch). IsOpenWith platform demangle new.options texts bs new after next) (sym cut)
-              (subst (λ (o : Options). IsOpenWith platform demangle o texts (done ++ b ∷ []) new after next) (sym options) came);
+              (subst (λ (o : Options). IsOpenWith platform demangle o texts (done ++ b ∷ []) new after next) (sym ends.options_are) came);
           steady = steady;
           sizes_are = ap (λ (bs : List Batch). map size_of bs) cut ∙ (one-size-more done b sizes stands.sizes_are ∙ sym one);
         };
         batches = cut;
-        options = options;
+        options = ends.options_are;
+        selects = subst (λ (o : Option World). IsSomeAnd o (λ w. (l : Selection) × Selects w l)) (sym ends.is) (ends.selection, ends.loaded.selects);
       }
 
   -- a cause that one batch more brings ends the link of the batches
   pub refused-next : (options : Options) (done : List Batch) (b : Batch) (db : Database P) (words : List RawFlags) (r : Resolving) (e : LinkError)
       → IsOpenWith platform demangle options texts done db words r → ForNext platform demangle options texts b db words r.known (λ w. BatchesEnd w (Err e) ⊎ (e ≡ link.Memory))
-      → IfSome (world_of_batches platform demangle options texts (done ++ b ∷ [])) (λ w. BatchesEnd w (Err e)) ⊎ (e ≡ link.Memory)
+      → IsSomeAnd (world_of_batches platform demangle options texts (done ++ b ∷ [])) (λ w. BatchesEnd w (Err e)) ⊎ (e ≡ link.Memory)
   refused-next options [] b db words r e came gives = for-next platform demangle options texts [] b db words r (λ w. BatchesEnd w (Err e) ⊎ (e ≡ link.Memory)) came gives
   refused-next options (f ∷ fs) b db words r e came gives = for-next platform demangle options texts (f ∷ fs) b db words r (λ w. BatchesEnd w (Err e) ⊎ (e ≡ link.Memory)) came gives
 
-  -- the world of the batches that came, where some did
-  pub record Stands (options : Options) (batches : List Batch) (db : Database P) (words : List RawFlags) (r : Resolving) : Type 0 where
-    pub world : World
-    pub is : world_of_batches platform demangle options texts batches ≡ Some world
-    pub held : IsHeld platform demangle world db words r
+-- what is so of a link that stands, where some batch came
+pub ends-standing : {P : Type 0} {G : Ghosts P} (platform : PlatformRules) (demangle : Bytes → Bytes) (s : StandingLink P G) → Stands platform demangle s → 0 < length (came_to s)
+    → Ends platform demangle (seen s.link.db).options s.texts (came_to s) (seen s.link.db) (words_of s.link.flags) s.link.resolver
+ends-standing platform demangle s stands some =
+    ends-open platform demangle (seen s.link.db).options s.texts (came_to s) (seen s.link.db) (words_of s.link.flags) s.link.resolver some stands.came
 
-  pub stands-some : (options : Options) (batches : List Batch) (db : Database P) (words : List RawFlags) (r : Resolving) → 0 < length batches
-      → IsOpenWith platform demangle options texts batches db words r → Stands options batches db words r
-  stands-some options [] db words r some came = absurd (omega (arith, some))
-  stands-some options (b ∷ bs) db words r some came = record { world = world_of platform demangle (given_in_batches b bs options texts); is = refl; held = came }
+-- a text is the cause, whatever batches there are
+pub refused-text : (platform : PlatformRules) (demangle : Bytes → Bytes) (texts : Scripts) (options : Options) (batches : List Batch) (e : LinkError) → 0 < length batches
+    → ((w : World) → IsGiven platform options texts w → TellsCause {A = Unit {0}} (text_refusal w) (Err e)) → IsRefusedFor platform demangle options texts batches e ⊎ (e ≡ link.Memory)
+refused-text platform demangle texts options [] e some tells = absurd (omega (arith, some))
+refused-text platform demangle texts options (b ∷ bs) e some tells =
+    let w : World = world_of platform demangle (given_in_batches b bs options texts) in
+    told-by (Unit {0}) (IsRefusedFor platform demangle options texts (b ∷ bs) e) (text_refusal w) e (λ is. refused-by-text w e is)
+    (tells w (record { same_options = refl; same_texts = refl; list_fault = refl }))
+
+-- fewer batches came than there are, where one is left
+pub few-left : {P : Type 0} (done : List Batch) (rest all : List (Inputs P)) (x : Inputs P) (others : List (Inputs P)) → done ++ map batch_of rest ≡ map batch_of all → rest ≡ x ∷ others
+    → length all ≤ 256 → length done < 256
+few-left {P} done rest all x others is left most =
+    let whole = ap (λ (bs : List Batch). length bs) is in
+    let both = length-append done (map (batch_of {P = P}) rest) in
+    let of_rest = length-map rest (batch_of {P = P}) in
+    let of_all = length-map all (batch_of {P = P}) in
+    let one = ap (λ (xs : List (Inputs P)). length xs) left in
+    omega (arith, whole, both, of_rest, of_all, one, most)
+
+-- all came where none is left
+pub all-came : {P : Type 0} (done : List Batch) (rest all : List (Inputs P)) → length rest ≡ 0 → done ++ map batch_of rest ≡ map batch_of all → done ≡ map batch_of all
+all-came done [] all none is = sym (append-nil done) ∙ is
+all-came done (x ∷ xs) all none is = absurd (omega (arith, none))

@@ -1,4 +1,5 @@
 pub mod Given
+pub mod Results
 pub mod Steps
 pub mod SessionErrors
 pub mod Sessions

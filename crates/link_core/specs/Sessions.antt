@@ -1,5 +1,5 @@
 -- A link to which batches come while it stands.
-use Rattle.std.specs.Prelude.{◌++◌, List, [], ◌∷◌, Option, Some, None}
+use Rattle.std.specs.Prelude.{◌++◌, List, [], ◌∷◌, Option}
 use Rattle.std.specs.List.{flat_map}
 use Rattle.std.specs.Option.{option_map_or}
 use Rattle.link_input.specs.declared.options.Options.{Options}
@@ -8,8 +8,8 @@ use Rattle.link_input.specs.InputFiles.{Batch}
 use Rattle.link_input.specs.ObjectFile.{ObjectFile}
 use Rattle.link_rules.specs.Places.{Bytes}
 use Rattle.link_rules.specs.Rules.{PlatformRules}
-use Rattle.link_rules.specs.World.{World, world_of}
-use Rattle.link_core.specs.Given.{given_in_batches}
+use Rattle.link_rules.specs.World.{World}
+use Rattle.link_core.specs.Given.{world_of_batches}
 
 -- what a session holds: what demangles names, the options and texts, and the batches that came
 pub record Held (D : Type 0) : Type 0 where
@@ -21,11 +21,6 @@ pub record Held (D : Type 0) : Type 0 where
 -- the same with one batch more
 abbrev pub with_batch : {D : Type 0} → Held D → Batch → Held D
 with_batch h b = record h { batches = h.batches ++ b ∷ [] }
-
--- the world of some batches, if there is one
-abbrev pub world_of_batches : PlatformRules → (Bytes → Bytes) → Options → Scripts → List Batch → Option World
-world_of_batches platform demangle options texts [] = None
-world_of_batches platform demangle options texts (b ∷ bs) = Some (world_of platform demangle (given_in_batches b bs options texts))
 
 -- the world of what a session holds
 abbrev pub held_world : {D : Type 0} → PlatformRules → (Bytes → Bytes) → Held D → Option World

@@ -1,12 +1,19 @@
--- What is so of a session as long as it stands.
-use Rattle.std.specs.Prelude.{◌≡◌, List, map}
+-- A link between two batches: what came to it, and what is so of it.
+use Rattle.std.specs.Prelude.{◌≡◌, ◌++◌, ◌∷◌, [], List, Option, map}
 use Rattle.link_flags.specs.declared.value_flags.RawFlags.{RawFlags}
+use Rattle.link_flags.specs.FlagWords.{words_of}
+use Rattle.link_input.specs.declared.platform.Platform.{Ghosts}
 use Rattle.link_input.specs.declared.world.Scripts.{Scripts}
+use Rattle.link_input.specs.InputFiles.{Batch}
 use Rattle.link_rules.specs.Places.{Bytes}
 use Rattle.link_rules.specs.Rules.{PlatformRules}
+use Rattle.link_rules.specs.World.{World}
 use Rattle.link_db.specs.Database.{Database}
+use Rattle.link_db.specs.Seen.{seen}
 use Rattle.link_resolve.specs.Resolving.{Resolving}
 use Rattle.link_core.specs.declared.batch_size.BatchSize.{BatchSize}
+use Rattle.link_core.specs.declared.standing_link.StandingLink.{StandingLink}
+use Rattle.link_core.specs.Given.{world_of_batches}
 use Rattle.link_core.specs.Sizes.{batches_in, size_of}
 use Rattle.link_core.specs.Steps.{IsOpenWith, IsSteady}
 
@@ -15,3 +22,19 @@ pub record IsStanding {P : Type 0} (platform : PlatformRules) (demangle : Bytes 
   pub came : IsOpenWith platform demangle db.options texts (batches_in sizes db.mapping.files.groups) db words r
   pub steady : IsSteady db words r.known
   pub sizes_are : map size_of (batches_in sizes db.mapping.files.groups) ≡ sizes
+
+-- it stands
+abbrev pub Stands : {P : Type 0} {G : Ghosts P} → PlatformRules → (Bytes → Bytes) → StandingLink P G → Type 0
+Stands platform demangle s = IsStanding platform demangle s.texts s.sizes.items (seen s.link.db) (words_of s.link.flags) s.link.resolver
+
+-- the batches that came to it
+abbrev pub came_to : {P : Type 0} {G : Ghosts P} → StandingLink P G → List Batch
+came_to s = batches_in s.sizes.items (seen s.link.db).mapping.files.groups
+
+-- the world of these batches
+abbrev pub standing_world : {P : Type 0} {G : Ghosts P} → PlatformRules → (Bytes → Bytes) → StandingLink P G → Option World
+standing_world platform demangle s = world_of_batches platform demangle (seen s.link.db).options s.texts (came_to s)
+
+-- and of these with one more
+abbrev pub next_world : {P : Type 0} {G : Ghosts P} → PlatformRules → (Bytes → Bytes) → StandingLink P G → Batch → Option World
+next_world platform demangle s b = world_of_batches platform demangle (seen s.link.db).options s.texts (came_to s ++ b ∷ [])

@@ -1,10 +1,10 @@
 -- How far a link has come, batch by batch.
-use Rattle.std.specs.Prelude.{ℕ, ◌≡◌, ◌⊎◌, ◌+◌, ◌*◌, ◌<◌, ◌^◌, ◌&&◌, ◌++◌, Bool, List, [], ◌∷◌, filter, is_some, length, map, not, None, Ok, Option}
+use Rattle.std.specs.Prelude.{ℕ, ◌≡◌, ◌⊎◌, ◌+◌, ◌*◌, ◌<◌, ◌^◌, ◌&&◌, ◌++◌, Bool, List, [], ◌∷◌, filter, is_some, length, map, not, None, Ok, Option, Some}
 use Rattle.std.specs.List.{flat_map}
 use Rattle.link_flags.specs.declared.value_flags.RawFlags.{RawFlags}
 use Rattle.link_flags.specs.FlagWords.{numbers_of}
 use Rattle.link_resolve_discarded.specs.Checked.{WereGroupsFine}
-use Rattle.link_resolve_discarded.specs.Indexed.{AreGroupsOf}
+use Rattle.link_resolve_discarded.specs.Indexed.{AreGroupsOf, IndexedGroups}
 use Rattle.link_db_files.specs.GroupFiles.{symbols_in}
 use Rattle.link_db_files.specs.Inputs.{objects_in}
 use Rattle.link_input_groups.specs.Held as held
@@ -15,13 +15,13 @@ use Rattle.link_input.specs.InputFiles.{Batch, input_files}
 use Rattle.link_input.specs.Symbols.{symbols_of}
 use Rattle.link_rules.specs.declared.refusal.LinkError.{LinkError}
 use Rattle.link_rules.specs.declared.refusal.LinkError.TheVariants.{Memory}
-use Rattle.link_rules.specs.Answer.{BatchesEnd, End, IsRefused, LinksBatch}
+use Rattle.link_rules.specs.Answer.{BatchesEnd, End, LinksBatch}
 use Rattle.link_rules.specs.FinalFlags.{final_flags}
 use Rattle.link_rules.specs.Loading.{IsLoaded}
 use Rattle.link_rules.specs.Marking.{flags_before, marked_flags}
 use Rattle.link_rules.specs.Orderly.{IsOrderly}
 use Rattle.link_rules.specs.Places.{Bytes, each_from, is_empty}
-use Rattle.link_rules.specs.Refusals.{duplicate_lines, first_cause, group_refusal, limit_refusal, linker_script_cause, text_refusal, unless_none}
+use Rattle.link_rules.specs.Refusals.{duplicate_lines, first_cause, group_refusal, late_refusal, limit_refusal, linker_script_cause, text_refusal, unless_none}
 use Rattle.link_rules.specs.Rivals.{reference_table, versioned_table}
 use Rattle.link_rules.specs.Rules.{PlatformRules, rules_of, taken_text}
 use Rattle.link_rules.specs.Selection.{Selection, selection_of}
@@ -29,13 +29,13 @@ use Rattle.link_rules.specs.Undefined.{boundary_makers, is_boundary_maker, is_la
 use Rattle.link_rules.specs.Visibility.{narrowed_symbol}
 use Rattle.link_rules.specs.World.{Earlier, Stage, World, start_of, with_batch, world_of}
 use Rattle.link_db_texts.specs.Holds.{AreRulesOf, HoldsTexts}
-use Rattle.link_db_mapping.specs.Mapped.{AreListed}
+use Rattle.link_db_mapping.specs.Mapped.{AreListed, mapping_of}
 use Rattle.link_db_symbols.specs.Lookups.{AreBelow}
 use Rattle.link_db.specs.Database.{Database, HasTable, symbol_names}
 use Rattle.link_db_stage.specs.AtStage.{IsAtStage}
 use Rattle.link_resolve.specs.Known.{IsListed, IsLoadedSelection, IsSelection, Known}
-use Rattle.link_resolve.specs.Resolving.{Resolving, nothing_known}
-use Rattle.link_resolve.specs.Settled.{IsEnded, IsSettled}
+use Rattle.link_resolve.specs.Resolving.{Resolving, known_of, nothing_known}
+use Rattle.link_resolve.specs.Settled.{IsEnded, IsSettled, meaning_at_end}
 use Rattle.link_core.specs.Given.{given_in_batches}
 
 -- ---- what is so of any database on the way
@@ -55,10 +55,6 @@ pub record IsSteady {P : Type 0} (db : Database P) (words : List RawFlags) (know
   pub targets : AreBelow (length (symbol_names db)) known.targets
 
 -- ---- what is so of a world's link
-
--- it is refused, or memory runs out
-abbrev pub IsRefusedWith : World → LinkError → Type 0
-IsRefusedWith w error = IsRefused w error ⊎ (error ≡ Memory)
 
 -- a stage has the files of these batches
 pub record HasFilesOf (options : Options) (batches : List Batch) (w : Stage) : Type 0 where
@@ -106,7 +102,7 @@ pub record IsReady {P : Type 0} (platform : PlatformRules) (w : World) (done : L
 -- why the files of a batch are refused before any object is loaded: but for the want of an object
 abbrev pub inputs_refusal : Bool → Stage → Batch → Option LinkError
 inputs_refusal is_late before b = first_cause
-    (linker_script_cause is_late (is_some (taken_text before.texts before.scripts)) (length before.scripts) b.scripts ∷ limit_refusal (with_batch before b) ∷ [])
+    (linker_script_cause before.options.script_profile is_late (is_some (taken_text before.texts before.scripts)) (length before.scripts) b.scripts ∷ limit_refusal (with_batch before b) ∷ [])
 
 -- the files of the last batch are added, and names are wrapped
 pub record IsAdded {P : Type 0} (platform : PlatformRules) (demangle : Bytes → Bytes) (w : World) (s : Stage) (db : Database P) (numbers : List ℕ) : Type 0 where
@@ -119,6 +115,14 @@ pub record IsAdded {P : Type 0} (platform : PlatformRules) (demangle : Bytes →
 pub record Selects (w : World) (l : Selection) : Type 0 where
   pub texts : text_refusal w ≡ None
   pub ends : BatchesEnd w (Ok l)
+
+-- its batches end with a selection, and this is the first cause that shows behind them
+abbrev pub IsRefusedBehind : World → LinkError → Type 0
+IsRefusedBehind w cause = (l : Selection) × Selects w l × (late_refusal (resolved l) ≡ Some cause)
+
+-- so it is refused, or memory runs out
+abbrev pub IsRefusedWith : World → LinkError → Type 0
+IsRefusedWith w error = IsRefusedBehind w error ⊎ (error ≡ Memory)
 
 -- the objects that count are loaded
 pub record IsLoadedWith {P : Type 0} (platform : PlatformRules) (demangle : Bytes → Bytes) (w : World) (l : Selection) (db : Database P) (numbers : List ℕ) (r : Resolving) : Type 0 where
@@ -176,10 +180,20 @@ pub record IsSettledWith {P : Type 0} (platform : PlatformRules) (demangle : Byt
   pub selects : Selects w l
   pub duplicates : unless_none (duplicate_lines l) ≡ None
   pub settled : IsSettled db r.known l
+  pub known : r.known ≡ known_of l
   pub rules : AreRulesOf platform demangle db.rules l.stage.rules
   pub groups : AreGroupsOf r.known.marks l.stage.objects r.groups
   pub table : db.table ≡ versioned_table l
   pub flags : numbers ≡ each_from (narrowed_symbol l.stage (marked_flags l)) 0 l.stage.symbols
+
+-- what is kept of a link that ends with this selection: the options, the symbols of files, what names are mapped to, which objects are loaded, what
+-- references stand for and how strongly symbols bind, and which section groups of the loaded regular objects are kept
+pub record IsKept {P : Type 0} (l : Selection) (db : Database P) (known : Known) (groups : IndexedGroups) : Type 0 where
+  pub options : db.options ≡ l.stage.options
+  pub symbols : symbols_in db.mapping.files.groups ≡ l.stage.symbols
+  pub names : (name : Bytes) → mapping_of db.mapping name ≡ meaning_at_end l name
+  pub known_is : known ≡ known_of l
+  pub groups_are : AreGroupsOf l.marks l.stage.objects groups
 
 -- what stands for undefined references is found, and all symbols have their flags
 pub record IsEndedWith {P : Type 0} (platform : PlatformRules) (demangle : Bytes → Bytes) (w : World) (l : Selection) (db : Database P) (numbers : List ℕ) (r : Resolving) : Type 0 where
@@ -189,4 +203,5 @@ pub record IsEndedWith {P : Type 0} (platform : PlatformRules) (demangle : Bytes
   pub objects : l.stage.objects ≡ objects_in db.mapping.files.groups
   pub groups : AreGroupsOf r.known.marks l.stage.objects r.groups
   pub added : db.mapping.files.added ≡ map (λ m. m.1.name) (boundary_makers l.stage (left_undefined l))
+  pub kept : IsKept l db r.known r.groups
   pub flags : numbers ≡ final_flags (resolved l)

@@ -15,14 +15,12 @@ ghost use Rattle.link_db.specs.Seen.{seen};
 ghost use Rattle.link_core.specs.Steps.{HasRoom, IsBefore, IsHeldAt, IsReady, IsSteady};
 
 use crate::adding::add_files;
+use crate::execution::Execution;
+use crate::opening::OpenLink;
 use link_claim::Gate;
-use link_db::SymbolDb;
-use link_flags::PerSymbolFlags;
 use link_input::{Inputs, Platform};
-use link_resolve::Resolver;
 use link_rules::LinkError;
 use link_script::Demangler;
-use std::alloc::Global;
 use std::thread::Threads;
 
 /// Links one batch more.
@@ -32,33 +30,42 @@ pub(crate) fn link_batch<
     P: Platform + Sync,
     D: Demangler + Sync,
 >(
-    rt: &R,
-    alloc: Global,
-    gate: &G,
+    execution: &Execution<R, G>,
     demangler: &D,
-    workers: usize,
-    db: &mut SymbolDb<P>,
-    flags: &mut PerSymbolFlags,
-    resolver: &mut Resolver,
+    link: &mut OpenLink<P>,
     inputs: Inputs<P>,
 ) -> Result<(), LinkError>
-    requires held { (batches : List Batch) × AreGroupsOf (seen db.old).options batches (seen db.old).mapping.files.groups × (length batches < batch_limit) }
-    requires steady { IsSteady (seen db.old) (words_of flags.old) resolver.old.known }
-    requires loaded { length resolver.old.known.marks ≤ length (objects_in (seen db.old).mapping.files.groups) }
-    ensures steady { OnOk result (IsSteady (seen db.new) (words_of flags.new) resolver.new.known) }
-    ensures room { OnOk result (HasRoom (seen db.new) (words_of flags.new)) }
-    ensures groups { OnOk result ((batches : List Batch) → AreGroupsOf (seen db.old).options batches (seen db.old).mapping.files.groups
-        → AreGroupsOf (seen db.new).options (batches ++ batch_of inputs ∷ []) (seen db.new).mapping.files.groups) }
+    requires held { (batches : List Batch) × AreGroupsOf (seen link.old.db).options batches (seen link.old.db).mapping.files.groups × (length batches < batch_limit) }
+    requires steady { IsSteady (seen link.old.db) (words_of link.old.flags) link.old.resolver.known }
+    requires loaded { length link.old.resolver.known.marks ≤ length (objects_in (seen link.old.db).mapping.files.groups) }
+    ensures steady { OnOk result (IsSteady (seen link.new.db) (words_of link.new.flags) link.new.resolver.known) }
+    ensures room { OnOk result (HasRoom (seen link.new.db) (words_of link.new.flags)) }
+    ensures groups { OnOk result ((batches : List Batch) → AreGroupsOf (seen link.old.db).options batches (seen link.old.db).mapping.files.groups
+        → AreGroupsOf (seen link.new.db).options (batches ++ batch_of inputs ∷ []) (seen link.new.db).mapping.files.groups) }
     ensures refused { IfErr result (λ error. (w : World) (done : List Batch) (before : Stage)
         → IsBefore (platform_of P.Platform) (D.demangled demangler.now) w done (batch_of inputs) before
-        → IsReady (platform_of P.Platform) w done before (seen db.old) (numbers_of (words_of flags.old)) resolver.old.known
+        → IsReady (platform_of P.Platform) w done before (seen link.old.db) (numbers_of (words_of link.old.flags)) link.old.resolver.known
         → BatchesEnd w (Err error) ⊎ (error ≡ Memory)) }
     ensures loaded { OnOk result ((w : World) (done : List Batch) (before : Stage)
         → IsBefore (platform_of P.Platform) (D.demangled demangler.now) w done (batch_of inputs) before
-        → IsReady (platform_of P.Platform) w done before (seen db.old) (numbers_of (words_of flags.old)) resolver.old.known
-        → (l : Selection) × IsHeldAt (platform_of P.Platform) (D.demangled demangler.now) w l (seen db.new) (numbers_of (words_of flags.new)) resolver.new) }
+        → IsReady (platform_of P.Platform) w done before (seen link.old.db) (numbers_of (words_of link.old.flags)) link.old.resolver.known
+        → (l : Selection) × IsHeldAt (platform_of P.Platform) (D.demangled demangler.now) w l (seen link.new.db) (numbers_of (words_of link.new.flags)) link.new.resolver) }
 {
-    add_files(rt, alloc, demangler, db, flags, inputs)?;
-    resolver.load_batch(rt, alloc, gate, workers, db, flags)?;
+    add_files(
+        execution.rt,
+        execution.alloc,
+        demangler,
+        &mut link.db,
+        &mut link.flags,
+        inputs,
+    )?;
+    link.resolver.load_batch(
+        execution.rt,
+        execution.alloc,
+        execution.gate,
+        execution.workers,
+        &link.db,
+        &mut link.flags,
+    )?;
     Ok(())
 }

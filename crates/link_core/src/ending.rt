@@ -15,7 +15,7 @@ ghost use Rattle.link_db.specs.Seen.{seen};
 ghost use Rattle.link_core_answer.specs.Parts.{answer_of};
 ghost use Rattle.link_core_answer.specs.Seen as answer;
 ghost use Rattle.link_rules.specs.Undefined.{resolved};
-ghost use Rattle.link_core.specs.Steps.{HasRoom, IsEndedWith, IsRefusedWith, IsSettledWith, undefined_ids};
+ghost use Rattle.link_core.specs.Steps.{HasRoom, IsEndedWith, IsKept, IsRefusedWith, IsSettledWith, undefined_ids};
 
 use link_core_answer::Linked;
 use link_db::SymbolDb;
@@ -113,6 +113,9 @@ fn endings<P: Platform, D: Demangler>(
     ensures objects { OnOk result ((w : World) (l : Selection)
         → IsSettledWith (platform_of P.Platform) (D.demangled demangler.now) w l (seen db.old) (numbers_of (words_of flags.old)) resolver.now
         → objects_in (seen db.new).mapping.files.groups ≡ l.stage.objects) }
+    ensures kept { OnOk result ((w : World) (l : Selection)
+        → IsSettledWith (platform_of P.Platform) (D.demangled demangler.now) w l (seen db.old) (numbers_of (words_of flags.old)) resolver.now
+        → IsKept l (seen db.new) resolver.now.known resolver.now.groups) }
     ensures linked { IfOk result (λ told. (w : World) (l : Selection)
         → IsSettledWith (platform_of P.Platform) (D.demangled demangler.now) w l (seen db.old) (numbers_of (words_of flags.old)) resolver.now
         → IsLinked w (answer_of (record {
@@ -148,6 +151,9 @@ pub(crate) fn end_link<P: Platform, D: Demangler>(
     ensures objects { IfOk result (λ linked. (w : World) (l : Selection)
         → IsSettledWith (platform_of P.Platform) (D.demangled demangler.now) w l (seen db) (numbers_of (words_of flags)) resolver
         → objects_in (answer.seen linked).db.mapping.files.groups ≡ l.stage.objects) }
+    ensures kept { IfOk result (λ linked. (w : World) (l : Selection)
+        → IsSettledWith (platform_of P.Platform) (D.demangled demangler.now) w l (seen db) (numbers_of (words_of flags)) resolver
+        → IsKept l (answer.seen linked).db (answer.seen linked).known (answer.seen linked).groups) }
     ensures linked { IfOk result (λ linked. (w : World) (l : Selection)
         → IsSettledWith (platform_of P.Platform) (D.demangled demangler.now) w l (seen db) (numbers_of (words_of flags)) resolver → IsLinked w (answer_of (answer.seen linked))) }
 {

@@ -1,10 +1,12 @@
 //! What a session holds.
 
-ghost use Rattle.std.specs.Prelude.{◌≡◌, ◌≢◌, ◌<◌, Err, IfErr, IfOk, IfSome, filter, length, option_and_then, slice_get};
+ghost use Rattle.std.specs.Prelude.{◌≡◌, ◌≢◌, ◌<◌, Err, IfErr, IfOk, IfSome, OnOk, filter, length, option_and_then, slice_get};
 ghost use Rattle.std.specs.List.{flat_map};
+ghost use Rattle.std.specs.Option.{IsSomeAnd};
 ghost use Rattle.link_closure.specs.Closure.{is_marked};
 ghost use Rattle.link_core_answer.specs.Parts.{answer_of};
 ghost use Rattle.link_core_answer.specs.Seen as answer;
+ghost use Rattle.link_db_files.specs.Inputs.{objects_in};
 ghost use Rattle.link_input.specs.InputFiles.{batch_of};
 ghost use Rattle.link_input.specs.Limits.{batch_limit};
 ghost use Rattle.link_input.specs.Symbols.{object_in};
@@ -14,12 +16,13 @@ ghost use Rattle.link_rules.specs.Names.{first_definition};
 ghost use Rattle.link_rules.specs.Selection.{Selection};
 ghost use Rattle.link_core.specs.declared.session_error.SessionError.TheVariants.{Ended};
 ghost use Rattle.link_core.specs.SessionErrors.{IsCause};
+ghost use Rattle.link_core.specs.Results.{HasParts};
 ghost use Rattle.link_core.specs.Sessions.{held_world, with_batch};
-ghost use Rattle.link_core.specs.Steps.{Selects};
+ghost use Rattle.link_core.specs.Steps.{IsRefusedBehind, Selects};
 
-use crate::link::finish_link;
+use crate::execution::Execution;
 use crate::session_error::SessionError;
-use crate::standing_link::{StandingLink, link_next};
+use crate::standing_link::StandingLink;
 use link_claim::Gate;
 use link_core_answer::Linked;
 use link_ids::SymbolId;
@@ -49,11 +52,9 @@ impl<P: Platform, D: Demangler + Drop> Drop for HeldLink<P, D> {
 
 impl<P: Platform, D: Demangler + Drop> Model for HeldLink<P, D> {
     ghost use Rattle.link_db.specs.Seen.{seen};
-    ghost use Rattle.link_flags.specs.FlagWords.{words_of};
     ghost use Rattle.link_db_texts.specs.Holds.{platform_of};
     ghost use Rattle.link_core.specs.Sessions.{Held};
-    ghost use Rattle.link_core.specs.Sizes.{batches_in};
-    ghost use Rattle.link_core.specs.Standing.{IsStanding};
+    ghost use Rattle.link_core.specs.Standing.{Stands, came_to};
 
     ghost Value = { Held D };
 
@@ -61,10 +62,10 @@ impl<P: Platform, D: Demangler + Drop> Model for HeldLink<P, D> {
       demangler = h.demangler;
       options = (seen h.standing.link.db).options;
       texts = h.standing.texts;
-      batches = batches_in h.standing.sizes.items (seen h.standing.link.db).mapping.files.groups;
+      batches = came_to h.standing;
     } };
 
-    ghost invariant = { λ h. IsStanding (platform_of P.Platform) (D.demangled h.demangler) h.standing.texts h.standing.sizes.items (seen h.standing.link.db) (words_of h.standing.link.flags) h.standing.link.resolver };
+    ghost invariant = { λ h. Stands (platform_of P.Platform) (D.demangled h.demangler) h.standing };
 }
 
 /// How many marks are set.
@@ -85,7 +86,9 @@ impl<P: Platform + Sync, D: Demangler + Drop + Sync> HeldLink<P, D> {
     ) -> Result<Self, SessionError>
         requires { length self.batches < batch_limit }
         ensures held { IfOk result (λ held. held ≡ with_batch self (batch_of inputs)) }
-        ensures refused { IfErr result (IsCause (λ cause. IfSome (held_world (platform_of P.Platform) (D.demangled self.demangler) (with_batch self (batch_of inputs)))
+        ensures selects { OnOk result (IsSomeAnd (held_world (platform_of P.Platform) (D.demangled self.demangler) (with_batch self (batch_of inputs)))
+            (λ w. (l : Selection) × Selects w l)) }
+        ensures refused { IfErr result (IsCause (λ cause. IsSomeAnd (held_world (platform_of P.Platform) (D.demangled self.demangler) (with_batch self (batch_of inputs)))
             (λ w. BatchesEnd w (Err cause)))) }
         ensures told { result ≢ Err Ended }
     {
@@ -94,21 +97,28 @@ impl<P: Platform + Sync, D: Demangler + Drop + Sync> HeldLink<P, D> {
             demangler,
             workers,
         } = self;
-        match link_next(rt, alloc, gate, &demangler, workers, &mut standing, inputs) {
-            Ok(()) => Ok(HeldLink {
-                standing,
-                demangler,
-                workers,
-            }),
-            Err(error) => Err(error),
-        }
+        let execution = Execution {
+            rt,
+            alloc,
+            gate,
+            workers,
+        };
+        standing.link_next(&execution, &demangler, inputs)?;
+        Ok(HeldLink {
+            standing,
+            demangler,
+            workers,
+        })
     }
 
     /// The link of all batches that came.
     pub(crate) fn finish(self, alloc: Global) -> Result<Linked<P>, SessionError>
         requires { 0 < length self.batches }
-        ensures linked { IfOk result (λ linked. IfSome (held_world (platform_of P.Platform) (D.demangled self.demangler) self) (λ w. IsLinked w (answer_of (answer.seen linked)))) }
-        ensures refused { IfErr result (IsCause (λ cause. IfSome (held_world (platform_of P.Platform) (D.demangled self.demangler) self) (λ w. IsRefused w cause))) }
+        ensures linked { IfOk result (λ linked. IsSomeAnd (held_world (platform_of P.Platform) (D.demangled self.demangler) self) (λ w. IsLinked w (answer_of (answer.seen linked)))) }
+        ensures parts { IfOk result (λ linked. IsSomeAnd (held_world (platform_of P.Platform) (D.demangled self.demangler) self) (λ w. HasParts w (answer.seen linked))) }
+        ensures objects { IfOk result (λ linked. objects_in (answer.seen linked).db.mapping.files.groups ≡ flat_map (λ b. b.objects) self.batches) }
+        ensures refused { IfErr result (IsCause (λ cause. IsSomeAnd (held_world (platform_of P.Platform) (D.demangled self.demangler) self) (λ w. IsRefused w cause))) }
+        ensures behind { IfErr result (IsCause (λ cause. IsSomeAnd (held_world (platform_of P.Platform) (D.demangled self.demangler) self) (λ w. IsRefusedBehind w cause))) }
         ensures told { result ≢ Err Ended }
     {
         let Self {
@@ -116,7 +126,7 @@ impl<P: Platform + Sync, D: Demangler + Drop + Sync> HeldLink<P, D> {
             demangler,
             workers: _,
         } = self;
-        let linked = finish_link(alloc, standing.link, &demangler)?;
+        let linked = standing.finish(alloc, &demangler)?;
         Ok(linked)
     }
 

@@ -7,7 +7,10 @@ mod adding;
 mod batch;
 mod batch_size;
 mod ending;
+mod execution;
+mod finishing;
 mod held_link;
+mod laws;
 mod link;
 mod opening;
 mod pointing;
@@ -16,6 +19,7 @@ mod session_error;
 mod settling;
 mod standing_link;
 
+pub use laws::{a_session_can_be_sent, a_world_selects_once};
 pub use link::{link_batches, link_symbols};
 pub use session::Session;
 pub use session_error::SessionError;

@@ -1,26 +1,28 @@
 //! A link to which batches of inputs come while it stands, and which can be asked between them.
 
 ghost use Rattle.std.specs.Prelude.{◌≡◌, ◌⊎◌, ◌≤◌, ◌<◌, [], Err, IfErr, IfOk, IfSome, None, OnErr, OnOk, Some, filter, is_none, length, option_and_then, option_map, slice_get};
+ghost use Rattle.std.specs.Option.{IsSomeAnd};
 ghost use Rattle.link_closure.specs.Closure.{is_marked};
 ghost use Rattle.link_core_answer.specs.Parts.{answer_of};
 ghost use Rattle.link_core_answer.specs.Seen as answer;
+ghost use Rattle.link_db_files.specs.Inputs.{objects_in};
 ghost use Rattle.link_input.specs.InputFiles.{batch_of};
 ghost use Rattle.link_input.specs.Limits.{batch_limit};
 ghost use Rattle.link_input.specs.Symbols.{object_in};
 ghost use Rattle.link_db_texts.specs.Causes.{IsGiven};
 ghost use Rattle.link_db_texts.specs.Holds.{platform_of};
-ghost use Rattle.link_rules.specs.Answer.{BatchesEnd, IsLinked, IsRefused};
+ghost use Rattle.link_rules.specs.Answer.{BatchesEnd};
 ghost use Rattle.link_rules.specs.Names.{first_definition};
 ghost use Rattle.link_rules.specs.Refusals.{text_refusal};
 ghost use Rattle.link_rules.specs.Selection.{Selection};
 ghost use Rattle.link_rules.specs.World.{World};
 ghost use Rattle.link_core.specs.declared.session_error.SessionError.TheVariants.{Ended};
+ghost use Rattle.link_core.specs.Results.{IsRefusedFor, KeepsParts, LinksTo};
 ghost use Rattle.link_core.specs.SessionErrors.{IsCause};
 ghost use Rattle.link_core.specs.Sessions.{batches_of, held_world, objects_of, with_batch};
-ghost use Rattle.link_core.specs.Steps.{Selects};
+ghost use Rattle.link_core.specs.Steps.{IsRefusedBehind, Selects};
 
 use crate::held_link::HeldLink;
-use crate::opening::open_link;
 use crate::session_error::SessionError;
 use crate::standing_link::StandingLink;
 use link_claim::Gate;
@@ -66,12 +68,7 @@ impl<P: Platform + Sync, D: Demangler + Drop + Sync> Session<P, D> {
         ensures accepted { (w : World) → IsGiven (platform_of P.Platform) options scripts w → IfOk result (λ _. text_refusal w ≡ None) }
         ensures refused { (w : World) → IsGiven (platform_of P.Platform) options scripts w → IfErr result (IsCause (λ cause. text_refusal w ≡ Some cause)) }
     {
-        let link = open_link(alloc, options, &scripts, workers)?;
-        let standing = StandingLink {
-            link,
-            texts: scripts,
-            sizes: Vec::new(alloc),
-        };
+        let standing = StandingLink::open(alloc, options, scripts, workers)?;
         let held = HeldLink {
             standing,
             demangler,
@@ -93,8 +90,10 @@ impl<P: Platform + Sync, D: Demangler + Drop + Sync> Session<P, D> {
     ) -> Result<(), SessionError>
         requires few { length (batches_of self.old) < batch_limit }
         ensures held { OnOk result (self.new ≡ option_map (λ held. with_batch held (batch_of inputs)) self.old) }
+        ensures selects { IfSome self.old (λ held. OnOk result (
+            IsSomeAnd (held_world (platform_of P.Platform) (D.demangled held.demangler) (with_batch held (batch_of inputs))) (λ w. (l : Selection) × Selects w l))) }
         ensures refused { IfSome self.old (λ held. IfErr result (IsCause (λ cause.
-            IfSome (held_world (platform_of P.Platform) (D.demangled held.demangler) (with_batch held (batch_of inputs))) (λ w. BatchesEnd w (Err cause))))) }
+            IsSomeAnd (held_world (platform_of P.Platform) (D.demangled held.demangler) (with_batch held (batch_of inputs))) (λ w. BatchesEnd w (Err cause))))) }
         ensures ends { OnErr result (self.new ≡ None) }
         ensures ended { self.old ≡ None → result ≡ Err Ended }
         ensures told { result ≡ Err Ended → self.old ≡ None }
@@ -107,14 +106,18 @@ impl<P: Platform + Sync, D: Demangler + Drop + Sync> Session<P, D> {
         Ok(())
     }
 
-    /// The link of all batches: what counts of several definitions is settled now. It is refused with the first cause that comes behind the batches, with
-    /// `Ended` where a batch was refused, or for want of memory.
+    /// The link of all batches: what counts of several definitions is settled now. It is refused with the first cause that shows behind the batches, which is
+    /// `DuplicateSymbols` or `UndefinedVersion`, with `Ended` where a batch was refused, or for want of memory.
     pub fn finish(self) -> Result<Linked<P>, SessionError>
         requires some { self ≡ None ⊎ (0 < length (batches_of self)) }
         ensures linked { IfSome self (λ held. IfOk result (λ linked.
-            IfSome (held_world (platform_of P.Platform) (D.demangled held.demangler) held) (λ w. IsLinked w (answer_of (answer.seen linked))))) }
-        ensures refused { IfSome self (λ held. IfErr result (IsCause (λ cause.
-            IfSome (held_world (platform_of P.Platform) (D.demangled held.demangler) held) (λ w. IsRefused w cause)))) }
+            LinksTo (platform_of P.Platform) (D.demangled held.demangler) held.options held.texts held.batches (answer_of (answer.seen linked)))) }
+        ensures parts { IfSome self (λ held. IfOk result (λ linked.
+            KeepsParts (platform_of P.Platform) (D.demangled held.demangler) held.options held.texts held.batches (answer.seen linked))) }
+        ensures objects { IfOk result (λ linked. objects_in (answer.seen linked).db.mapping.files.groups ≡ objects_of self) }
+        ensures refused { IfSome self (λ held. IfErr result (IsCause (IsRefusedFor (platform_of P.Platform) (D.demangled held.demangler) held.options held.texts held.batches))) }
+        ensures behind { IfSome self (λ held. IfErr result (IsCause (λ cause.
+            IsSomeAnd (held_world (platform_of P.Platform) (D.demangled held.demangler) held) (λ w. IsRefusedBehind w cause)))) }
         ensures ended { self ≡ None → result ≡ Err Ended }
         ensures told { result ≡ Err Ended → self ≡ None }
     {

@@ -1,34 +1,55 @@
 //! A link that stands between two batches.
 
-ghost use Rattle.std.specs.Prelude.{◌≡◌, ◌≢◌, ◌<◌, ◌++◌, ◌∷◌, [], Err, IfErr, IfSome, OnOk, length};
-ghost use Rattle.link_flags.specs.FlagWords.{words_of};
+ghost use Rattle.std.specs.Prelude.{◌≡◌, ◌⊎◌, ◌≤◌, ◌<◌, ◌++◌, ◌∷◌, [], Err, IfErr, IfOk, OnOk, length};
+ghost use Rattle.std.specs.List.{flat_map};
+ghost use Rattle.std.specs.Option.{IsSomeAnd};
+ghost use Rattle.link_core_answer.specs.Parts.{answer_of};
+ghost use Rattle.link_core_answer.specs.Seen as answer;
+ghost use Rattle.link_db_files.specs.Inputs.{objects_in};
 ghost use Rattle.link_input.specs.InputFiles.{batch_of};
 ghost use Rattle.link_input.specs.Limits.{batch_limit};
+ghost use Rattle.link_db_texts.specs.Causes.{IsGiven, TellsCause};
 ghost use Rattle.link_db_texts.specs.Holds.{platform_of};
-ghost use Rattle.link_rules.specs.Answer.{BatchesEnd};
+ghost use Rattle.link_rules.specs.declared.refusal.LinkError.TheVariants.{Memory};
+ghost use Rattle.link_rules.specs.Answer.{BatchesEnd, IsLinked, IsRefused};
+ghost use Rattle.link_rules.specs.Places.{Bytes};
+ghost use Rattle.link_rules.specs.Refusals.{text_refusal};
+ghost use Rattle.link_rules.specs.Selection.{Selection};
+ghost use Rattle.link_rules.specs.World.{World};
 ghost use Rattle.link_db.specs.Seen.{seen};
-ghost use Rattle.link_core.specs.declared.session_error.SessionError.TheVariants.{Ended};
-ghost use Rattle.link_core.specs.SessionErrors.{IsCause};
-ghost use Rattle.link_core.specs.Sessions.{world_of_batches};
-ghost use Rattle.link_core.specs.Sizes.{batches_in};
-ghost use Rattle.link_core.specs.Standing.{IsStanding};
+ghost use Rattle.link_core.specs.Results.{HasParts};
+ghost use Rattle.link_core.specs.Standing.{Stands, came_to, next_world, standing_world};
+ghost use Rattle.link_core.specs.Steps.{IsRefusedBehind, Selects};
 
 use crate::batch::link_batch;
 use crate::batch_size::BatchSize;
-use crate::opening::OpenLink;
-use crate::session_error::SessionError;
+use crate::execution::Execution;
+use crate::finishing::finish_link;
+use crate::opening::{OpenLink, open_link};
 use link_claim::Gate;
-use link_input::{Inputs, Platform, Scripts};
+use link_core_answer::Linked;
+use link_input::{Inputs, Options, Platform, Scripts};
+use link_rules::LinkError;
 use link_script::Demangler;
 use std::alloc::{AllocError, Global};
 use std::thread::Threads;
 
 /// A link, the texts that it was given, and how many files each of its batches has.
-#[derive(Drop)]
 pub(crate) struct StandingLink<P: Platform> {
     pub(crate) link: OpenLink<P>,
     pub(crate) texts: Scripts,
     pub(crate) sizes: Vec<BatchSize>,
+}
+
+// By hand, so that what lets one go makes one call and does not name its parts.
+impl<P: Platform> Drop for StandingLink<P> {
+    fn drop(self) {
+        let Self {
+            link: _,
+            texts: _,
+            sizes: _,
+        } = self;
+    }
 }
 
 /// Notes how many files a batch has.
@@ -39,42 +60,73 @@ fn note_size(sizes: &mut Vec<BatchSize>, size: BatchSize) -> Result<(), AllocErr
     Ok(())
 }
 
-/// Links one batch more. What is left of a refused link is of no use.
-pub(crate) fn link_next<R: Threads + Sync, G: Gate + Sync, P: Platform + Sync, D: Demangler + Sync>(
-    rt: &R,
-    alloc: Global,
-    gate: &G,
-    demangler: &D,
-    workers: usize,
-    standing: &mut StandingLink<P>,
-    inputs: Inputs<P>,
-) -> Result<(), SessionError>
-    requires standing { IsStanding (platform_of P.Platform) (D.demangled demangler.now) standing.old.texts standing.old.sizes.items
-        (seen standing.old.link.db) (words_of standing.old.link.flags) standing.old.link.resolver }
-    requires few { length standing.old.sizes.items < batch_limit }
-    ensures standing { OnOk result (IsStanding (platform_of P.Platform) (D.demangled demangler.now) standing.new.texts standing.new.sizes.items
-        (seen standing.new.link.db) (words_of standing.new.link.flags) standing.new.link.resolver) }
-    ensures batches { OnOk result (batches_in standing.new.sizes.items (seen standing.new.link.db).mapping.files.groups
-        ≡ batches_in standing.old.sizes.items (seen standing.old.link.db).mapping.files.groups ++ batch_of inputs ∷ []) }
-    ensures options { OnOk result ((seen standing.new.link.db).options ≡ (seen standing.old.link.db).options) }
-    ensures texts { standing.new.texts ≡ standing.old.texts }
-    ensures refused { IfErr result (IsCause (λ cause. IfSome (world_of_batches (platform_of P.Platform) (D.demangled demangler.now)
-        (seen standing.old.link.db).options standing.old.texts (batches_in standing.old.sizes.items (seen standing.old.link.db).mapping.files.groups ++ batch_of inputs ∷ []))
-        (λ w. BatchesEnd w (Err cause)))) }
-    ensures told { result ≢ Err Ended }
-{
-    let size = BatchSize::of(&inputs);
-    link_batch(
-        rt,
-        alloc,
-        gate,
-        demangler,
-        workers,
-        &mut standing.link.db,
-        &mut standing.link.flags,
-        &mut standing.link.resolver,
-        inputs,
-    )?;
-    note_size(&mut standing.sizes, size)?;
-    Ok(())
+impl<P: Platform + Sync> StandingLink<P> {
+    /// A link with these options and texts, and no batch.
+    pub(crate) fn open(
+        alloc: Global,
+        options: Options,
+        texts: Scripts,
+        workers: usize,
+    ) -> Result<Self, LinkError>
+        requires workers { (1 ≤ workers) × (workers ≤ 256) }
+        requires files { (1 ≤ options.files_per_group) × (options.files_per_group ≤ 256) }
+        ensures cause { (w : World) → IsGiven (platform_of P.Platform) options texts w → TellsCause (text_refusal w) result }
+        ensures standing { IfOk result (λ standing. (demangle : Bytes → Bytes) → Stands (platform_of P.Platform) demangle standing) }
+        ensures options { IfOk result (λ standing. (seen standing.link.db).options ≡ options) }
+        ensures texts { IfOk result (λ standing. standing.texts ≡ texts) }
+        ensures batches { IfOk result (λ standing. came_to standing ≡ []) }
+    {
+        let link = open_link(alloc, options, &texts, workers)?;
+        let sizes = Vec::new(alloc);
+        Ok(StandingLink { link, texts, sizes })
+    }
+
+    /// Links one batch more. What is left of a refused link is of no use.
+    pub(crate) fn link_next<R: Threads + Sync, G: Gate + Sync, D: Demangler + Sync>(
+        &mut self,
+        execution: &Execution<R, G>,
+        demangler: &D,
+        inputs: Inputs<P>,
+    ) -> Result<(), LinkError>
+        requires standing { Stands (platform_of P.Platform) (D.demangled demangler.now) self.old }
+        requires few { length (came_to self.old) < batch_limit }
+        ensures standing { OnOk result (Stands (platform_of P.Platform) (D.demangled demangler.now) self.new) }
+        ensures batches { OnOk result (came_to self.new ≡ came_to self.old ++ batch_of inputs ∷ []) }
+        ensures options { OnOk result ((seen self.new.link.db).options ≡ (seen self.old.link.db).options) }
+        ensures texts { self.new.texts ≡ self.old.texts }
+        ensures selects { OnOk result (IsSomeAnd (next_world (platform_of P.Platform) (D.demangled demangler.now) self.old (batch_of inputs)) (λ w. (l : Selection) × Selects w l)) }
+        ensures refused { IfErr result (λ error.
+            IsSomeAnd (next_world (platform_of P.Platform) (D.demangled demangler.now) self.old (batch_of inputs)) (λ w. BatchesEnd w (Err error)) ⊎ (error ≡ Memory)) }
+    {
+        let size = BatchSize::of(&inputs);
+        link_batch(execution, demangler, &mut self.link, inputs)?;
+        note_size(&mut self.sizes, size)?;
+        Ok(())
+    }
+
+    /// The link of all batches that came.
+    pub(crate) fn finish<D: Demangler>(
+        self,
+        alloc: Global,
+        demangler: &D,
+    ) -> Result<Linked<P>, LinkError>
+        requires standing { Stands (platform_of P.Platform) (D.demangled demangler.now) self }
+        requires some { 0 < length (came_to self) }
+        ensures linked { IfOk result (λ linked.
+            IsSomeAnd (standing_world (platform_of P.Platform) (D.demangled demangler.now) self) (λ w. IsLinked w (answer_of (answer.seen linked)))) }
+        ensures parts { IfOk result (λ linked.
+            IsSomeAnd (standing_world (platform_of P.Platform) (D.demangled demangler.now) self) (λ w. HasParts w (answer.seen linked))) }
+        ensures objects { IfOk result (λ linked. objects_in (answer.seen linked).db.mapping.files.groups ≡ flat_map (λ b. b.objects) (came_to self)) }
+        ensures refused { IfErr result (λ error.
+            IsSomeAnd (standing_world (platform_of P.Platform) (D.demangled demangler.now) self) (λ w. IsRefused w error) ⊎ (error ≡ Memory)) }
+        ensures behind { IfErr result (λ error.
+            IsSomeAnd (standing_world (platform_of P.Platform) (D.demangled demangler.now) self) (λ w. IsRefusedBehind w error) ⊎ (error ≡ Memory)) }
+    {
+        let StandingLink {
+            link,
+            texts: _,
+            sizes: _,
+        } = self;
+        finish_link(alloc, link, demangler)
+    }
 }

@@ -6,6 +6,7 @@ ghost use Rattle.link_flags.specs.FlagWords.{numbers_of, words_of};
 ghost use Rattle.link_db.specs.Seen as database;
 ghost use Rattle.link_core_answer.specs.Parts.{AreWhole};
 
+use link_closure::is_marked;
 use link_db::SymbolDb;
 use link_flags::{FlagsForSymbol, PerSymbolFlags, ValueFlags};
 use link_ids::SymbolId;
@@ -52,13 +53,6 @@ impl<P: Platform> Drop for Linked<P> {
             missing: _,
         } = self;
     }
-}
-
-/// The mark at this place; none is set past the end.
-fn is_marked(marks: &[bool], at: usize) -> bool
-    ensures { result ≡ is_marked marks.now at }
-{
-    marks.get(at).copied().unwrap_or(false)
 }
 
 impl<P: Platform> Linked<P> {

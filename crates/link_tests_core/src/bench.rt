@@ -1,6 +1,6 @@
-//! The time that workers take to load the objects of a made-up link, beside that of a plain work list over the same edges.
+//! The time that workers take to add the files of a made-up link to a database and to load its objects, beside that of a plain map and of plain work lists.
 
-ghost use Rattle.std.specs.Prelude.{◌≡◌, IfOk, length};
+ghost use Rattle.std.specs.Prelude.{◌≡◌, ◌≤◌, IfOk, length};
 ghost use Rattle.link_closure.specs.Graph.{AreInRange};
 ghost use Rattle.link_db.specs.Database.{symbol_names};
 ghost use Rattle.link_db.specs.Seen.{seen};
@@ -9,13 +9,13 @@ ghost use Rattle.link_resolve.specs.Known.{IsListed};
 
 use crate::graphs::{chain, fan, reached, tree};
 use crate::loading::{count_of, opened};
-use crate::looking::reached_by_names;
-use crate::shape::{Shape, inputs_of};
+use crate::looking::{names_in_map, reached_by_names};
+use crate::shape::{Shape, chain_files, inputs_of};
 use link_claim::OpenGate;
 use link_closure::Edge;
 use link_db::SymbolDb;
 use link_flags::PerSymbolFlags;
-use link_input::ElfLike;
+use link_input::{ElfLike, Inputs};
 use link_names::parse_number;
 use link_resolve::Resolver;
 use link_rules::LinkError;
@@ -29,7 +29,7 @@ use thiserror::Error;
 /// Why nothing was timed.
 #[derive(Clone, Copy, Debug, PartialEq, Eq, Error)]
 pub(crate) enum Fault {
-    #[error("usage: chain|fan|tree OBJECTS WORKERS")]
+    #[error("usage: line|chain|fan|tree OBJECTS WORKERS, with 1 to 256 workers")]
     Usage,
     #[error("memory ran out")]
     Memory,
@@ -64,15 +64,31 @@ fn lap<R: Clock + Eprint>(rt: &R, start: Instant, what: &str) -> Result<Instant,
     Ok(Instant::now(rt)?)
 }
 
-/// The edges of a kind of link, with ten references a member in a chain and in a fan.
+/// The edges of a kind of link, with one reference a member in a line, and ten in a chain and in a fan.
 fn edges_of(alloc: Global, kind: &str, count: usize) -> Result<Vec<Edge>, Fault>
     ensures { IfOk result (λ edges. AreInRange count edges.items) }
 {
     match kind {
+        "line" => Ok(chain(alloc, count, 1)?),
         "chain" => Ok(chain(alloc, count, 10)?),
         "fan" => Ok(fan(alloc, count, 10)?),
         "tree" => Ok(tree(alloc, count)?),
         _ => Err(Fault::Usage),
+    }
+}
+
+/// The files of a kind of link with these edges. A line is the made-up link in which each member refers to the next one.
+/// What they hold is left open: what is loaded of them shows it.
+fn files_of(
+    alloc: Global,
+    kind: &str,
+    count: usize,
+    edges: &[Edge],
+) -> Result<Inputs<ElfLike>, Fault> {
+    match (kind, count) {
+        ("line", 2..=100_001) => Ok(chain_files(alloc, count - 1)?),
+        ("line", _) => Err(Fault::Usage),
+        _ => Ok(inputs_of(alloc, &Shape::of_edges(alloc, 1, count, edges)?)?),
     }
 }
 
@@ -89,11 +105,11 @@ fn time_loading<R: Threads + Sync + Clock + Eprint>(
 {
     let mut resolver = Resolver::new(alloc);
     let start = Instant::now(rt)?;
-    let requests = resolver.load_batch(rt, alloc, &OpenGate, workers, db, flags)?;
+    let read = resolver.load_batch(rt, alloc, &OpenGate, workers, db, flags)?;
     let loaded = lap(rt, start, "loaded")?;
     resolver.point_references(alloc, db)?;
     lap(rt, loaded, "pointed")?;
-    Ok((count_of(resolver.resolved().loaded()), requests))
+    Ok((count_of(resolver.resolved().loaded()), read.requests))
 }
 
 /// How many of so many numbers the plain work list finds.
@@ -131,12 +147,26 @@ fn number_of(word: &String) -> Result<usize, Fault> {
     }
 }
 
-/// A kind of link, how many objects there are, and how many workers.
-fn task_of(words: &[String]) -> Result<(&str, usize, usize), Fault> {
-    match words {
-        [kind, objects, workers] => Ok((kind, number_of(objects)?, number_of(workers)?)),
+/// How many workers a word asks for.
+fn workers_of(word: &String) -> Result<usize, Fault>
+    ensures { IfOk result (λ workers. (1 ≤ workers) × (workers ≤ 256)) }
+{
+    match number_of(word)? {
+        workers @ 1..=256 => Ok(workers),
         _ => Err(Fault::Usage),
     }
+}
+
+/// Puts the names that the files of a link define into a plain map. How many there are.
+fn time_map<R: Clock + Eprint>(
+    rt: &R,
+    alloc: Global,
+    files: &Inputs<ElfLike>,
+) -> Result<usize, Fault> {
+    let start = Instant::now(rt)?;
+    let names = names_in_map(alloc, files)?;
+    lap(rt, start, "mapped")?;
+    Ok(names)
 }
 
 /// Times the plain work list that looks names up, the loading of a database's objects, and the plain work list over known edges. Says how many
@@ -161,18 +191,41 @@ fn time_both<R: Threads + Sync + Clock + Print + Eprint>(
     Ok(())
 }
 
-/// Times what words tell: the loading of a link's objects by threads, and the plain work list over the same edges.
+/// Adds the files of a link to a database, and then times the loading of its objects.
+fn time_link<R: Threads + Sync + Clock + Print + Eprint>(
+    rt: &R,
+    alloc: Global,
+    workers: usize,
+    count: usize,
+    edges: &[Edge],
+    files: Inputs<ElfLike>,
+) -> Result<(), Fault>
+    requires workers { (1 ≤ workers) × (workers ≤ 256) }
+    requires edges { AreInRange count edges.now }
+{
+    let mut flags = PerSymbolFlags::new(alloc);
+    let start = Instant::now(rt)?;
+    let mut db = opened(rt, alloc, workers, &mut flags, files)?;
+    lap(rt, start, "added")?;
+    // By reference, so that one arm alone lets the database go.
+    time_both(rt, alloc, workers, count, edges, &mut db, &mut flags)
+}
+
+/// Times what words tell: how long the files of a link take to come into a database, and its objects to be loaded by threads, beside plain ways.
 /// What it writes is left open: figures are no promise.
 pub(crate) fn bench<R: Threads + Sync + Clock + Print + Eprint>(
     rt: &R,
     alloc: Global,
     words: &[String],
 ) -> Result<(), Fault> {
-    let (kind, count, workers) = task_of(words)?;
+    let [kind, objects, workers] = words else {
+        return Err(Fault::Usage);
+    };
+    let count = number_of(objects)?;
+    let workers = workers_of(workers)?;
     let edges = edges_of(alloc, kind, count)?;
-    let files = inputs_of(alloc, &Shape::of_edges(alloc, 1, count, &edges)?)?;
-    let mut flags = PerSymbolFlags::new(alloc);
-    let mut db = opened(rt, alloc, &mut flags, files)?;
-    // By reference, so that one arm alone lets the database go.
-    time_both(rt, alloc, workers, count, &edges, &mut db, &mut flags)
+    let files = files_of(alloc, kind, count, &edges)?;
+    let names = time_map(rt, alloc, &files)?;
+    println!(rt; "{names} names")?;
+    time_link(rt, alloc, workers, count, &edges, files)
 }

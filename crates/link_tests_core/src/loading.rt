@@ -1,6 +1,6 @@
 //! The objects of a link come into a database and are loaded.
 
-ghost use Rattle.std.specs.Prelude.{◌≡◌, [], IfOk, OnOk, filter, length};
+ghost use Rattle.std.specs.Prelude.{◌≡◌, ◌≤◌, [], IfOk, OnOk, filter, length};
 ghost use Rattle.link_flags.specs.FlagWords.{words_of};
 ghost use Rattle.link_db.specs.Database.{HasTable, no_names, symbol_names};
 ghost use Rattle.link_db_files.specs.GroupFiles.{symbols_in};
@@ -43,14 +43,16 @@ fn add_files<R: Threads + Sync>(
     Ok(())
 }
 
-/// A database with the files of a link.
+/// A database with the files of a link, which so many workers read.
 pub(crate) fn opened<R: Threads + Sync>(
     rt: &R,
     alloc: Global,
+    workers: usize,
     flags: &mut PerSymbolFlags,
     files: Inputs<ElfLike>,
 ) -> Result<SymbolDb<ElfLike>, LinkError>
-    requires { words_of flags.old ≡ [] }
+    requires workers { (1 ≤ workers) × (workers ≤ 256) }
+    requires flags { words_of flags.old ≡ [] }
     ensures listed { IfOk result (λ db. IsListed (seen db)) }
     ensures flags { IfOk result (λ db. length (words_of flags.new) ≡ length (symbol_names (seen db))) }
 {
@@ -58,7 +60,7 @@ pub(crate) fn opened<R: Threads + Sync>(
         version_script: None,
         export_list: None,
     };
-    let mut db = SymbolDb::new(alloc, Options::new(alloc), &texts, 1)?;
+    let mut db = SymbolDb::new(alloc, Options::new(alloc), &texts, workers)?;
     // One arm alone lets the database go.
     match add_files(rt, alloc, &mut db, flags, files) {
         Ok(()) => Ok(db),
@@ -84,6 +86,6 @@ pub(crate) fn resolve<R: Threads + Sync, G: Gate + Sync>(
     ensures known { OnOk result (length resolver.new.known.strengths ≡ length (symbols_in (seen db.new).mapping.files.groups)) }
     ensures flags { OnOk result (length (words_of flags.new) ≡ length (symbols_in (seen db.new).mapping.files.groups)) }
 {
-    let requests = resolver.resolve_counted(rt, alloc, gate, workers, db, flags)?;
-    Ok(requests)
+    let read = resolver.resolve_counted(rt, alloc, gate, workers, db, flags)?;
+    Ok(read.requests)
 }

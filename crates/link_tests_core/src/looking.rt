@@ -1,11 +1,37 @@
-//! The objects of a link by one plain work list, which looks each name up and shares nothing.
+//! The plain ways beside which a link is timed: a map of its names, and one work list that looks each name up and shares nothing.
 
 use link_db::{SymbolDb, SymbolKey};
 use link_db_symbols::{ObjectSymbols, SymbolView, object_symbols};
 use link_ids::SymbolId;
-use link_input::ElfLike;
+use link_input::{ElfLike, Inputs, ParsedInputObject};
 use link_resolve_requests::request_by;
 use std::alloc::{AllocError, Global};
+use std::collections::HashMap;
+
+/// Puts the names that an object defines into a map: the first object of each name stays.
+fn put_names<'a>(
+    map: &mut HashMap<&'a [u8], usize>,
+    place: usize,
+    object: &'a ParsedInputObject<ElfLike>,
+) -> Result<(), AllocError> {
+    for at in 0..object.num_symbols() {
+        let row = object.object().symbol_at(at);
+        if !row.is_undefined() {
+            map.entry(row.name().as_slice())?.or_insert(place);
+        }
+    }
+    Ok(())
+}
+
+/// How many names the objects of a link define, by a map of them.
+/// The number is left open: this is what a time is compared with.
+pub(crate) fn names_in_map(alloc: Global, files: &Inputs<ElfLike>) -> Result<usize, AllocError> {
+    let mut map = HashMap::new(alloc);
+    for (place, object) in files.objects.as_slice().iter().enumerate() {
+        put_names(&mut map, place, object)?;
+    }
+    Ok(map.len())
+}
 
 /// Marks an object, and puts it on the list, where it has no mark yet.
 fn reach(marks: &mut [bool], todo: &mut Vec<usize>, object: usize) -> Result<(), AllocError> {

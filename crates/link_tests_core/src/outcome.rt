@@ -13,7 +13,7 @@ use link_claim::Gate;
 use link_db::SymbolDb;
 use link_flags::{PerSymbolFlags, RawFlags};
 use link_ids::SymbolId;
-use link_input::ElfLike;
+use link_input::{ElfLike, Inputs};
 use link_resolve::{Resolver, resolve_alternative_symbol_definitions};
 use link_rules::LinkError;
 use std::alloc::Global;
@@ -39,6 +39,19 @@ impl Outcome {
         ensures { result ≡ length (filter (λ mark. mark) self.now.loaded.items) }
     {
         count_of(&self.loaded)
+    }
+
+    /// What the reference of this id stands for. It is left open: tests compare it.
+    pub(crate) fn target_of(&self, symbol: usize) -> Option<usize> {
+        match self.targets.get(symbol) {
+            Some(Some(target)) => Some(target.as_usize()),
+            _ => None,
+        }
+    }
+
+    /// What the symbol of this id points to. It is left open: tests compare it.
+    pub(crate) fn points_to(&self, symbol: usize) -> Option<usize> {
+        self.table.get(symbol).map(|to| to.as_usize())
     }
 }
 
@@ -67,9 +80,20 @@ pub(crate) fn load<R: Threads + Sync, G: Gate + Sync>(
     workers: usize,
     shape: &Shape,
 ) -> Result<Outcome, LinkError> {
-    let files = inputs_of(alloc, shape)?;
+    load_files(rt, alloc, gate, workers, inputs_of(alloc, shape)?)
+}
+
+/// The same of the files of a link.
+/// What is left is open here too.
+pub(crate) fn load_files<R: Threads + Sync, G: Gate + Sync>(
+    rt: &R,
+    alloc: Global,
+    gate: &G,
+    workers: usize,
+    files: Inputs<ElfLike>,
+) -> Result<Outcome, LinkError> {
     let mut flags = PerSymbolFlags::new(alloc);
-    let mut db = opened(rt, alloc, &mut flags, files)?;
+    let mut db = opened(rt, alloc, 1, &mut flags, files)?;
     let mut resolver = Resolver::new(alloc);
     let requests = resolve(rt, alloc, gate, workers, &mut db, &mut flags, &mut resolver)?;
     let table = settled_table(alloc, db, &mut flags, &resolver)?;

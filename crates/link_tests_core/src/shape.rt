@@ -1,11 +1,15 @@
 //! Links told by a few numbers.
 
+ghost use Rattle.std.specs.Prelude.{◌≤◌};
+
 use link_closure::Edge;
 use link_flags::Visibility;
 use link_input::{
     ElfLike, InputObject, Inputs, Modifiers, ObjectTable, ParsedInputObject, Place, SectionGroup,
     SymbolBinding, SymbolEntry, SymbolKind,
 };
+use link_manifest::Manifest;
+use link_manifest_bulk::chain_manifest;
 use link_names::{Name, Seq};
 use std::alloc::{AllocError, Global};
 
@@ -161,4 +165,16 @@ pub(crate) fn inputs_of(alloc: Global, shape: &Shape) -> Result<Inputs<ElfLike>,
         scripts: Seq::new(alloc),
         stubs: Seq::new(alloc),
     })
+}
+
+/// The files of the made-up link in which each of so many members refers to the next one alone.
+pub(crate) fn chain_files(alloc: Global, members: usize) -> Result<Inputs<ElfLike>, AllocError>
+    requires some { 1 ≤ members }
+    requires in_range { members ≤ 100000 }
+{
+    match chain_manifest(alloc, members)? {
+        Manifest::Elf(world) => Ok(world.inputs),
+        // It is for a platform like ELF.
+        Manifest::Mach(_) => Err(AllocError),
+    }
 }

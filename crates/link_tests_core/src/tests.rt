@@ -1,11 +1,10 @@
 //! What threads load, and that they run beside each other.
 
 use crate::gates::Meeting;
-use crate::graphs::{chain, reached, scattered};
-use crate::outcome::load;
-use crate::shape::{Kind, Shape};
+use crate::graphs::{reached, scattered};
+use crate::outcome::{load, load_files};
+use crate::shape::{Kind, Shape, chain_files};
 use link_claim::OpenGate;
-use link_ids::SymbolId;
 use link_rules::LinkError;
 use std::sync::atomic::Ordering;
 use std::test::Fail;
@@ -52,28 +51,25 @@ fn a_link_without_objects_is_refused(rt: HostRuntime) -> Result<(), Fail> {
 }
 
 /// Chains of so many members, each with how many workers load it.
-const CHAINS: &[(usize, usize)] = &[(3, 2), (100_000, 8)];
+const CHAINS: &[(usize, usize)] = &[(1, 1), (3, 2), (100_000, 8)];
 
+/// Each member of a chain has a null entry, a definition and but for the last one a reference, which stands for the definition of the next member.
 #[test]
 fn a_chain_is_loaded_to_its_end(rt: HostRuntime) -> Result<(), Fail> {
     for &(members, workers) in CHAINS {
-        let count = members.saturating_add(1);
-        let edges = chain(rt.alloc(), count, 1)?;
-        let shape = Shape::of_edges(rt.alloc(), 1, count, &edges)?;
-        let outcome = load(&rt, rt.alloc(), &OpenGate, workers, &shape)?;
-        let all = outcome.count() == count && outcome.requests == members as u64;
-        let ends = stands_for(&outcome.targets, 2, 4) && stands_for(&outcome.targets, 8, 10);
-        assert!(rt; all && ends, "with {members} members");
+        let files = chain_files(rt.alloc(), members)?;
+        let outcome = load_files(&rt, rt.alloc(), &OpenGate, workers, files)?;
+        let all = outcome.count() == members.saturating_add(1);
+        let requested = outcome.requests == members as u64;
+        let linked = (0..members).all(|member| {
+            let reference = member.wrapping_mul(3).wrapping_add(2);
+            let definition = reference.wrapping_add(2);
+            outcome.target_of(reference) == Some(definition)
+                && outcome.points_to(reference) == Some(definition)
+        });
+        assert!(rt; all && requested && linked, "with {members} members");
     }
     Ok(())
-}
-
-/// Whether the symbol of this id stands for that of another.
-fn stands_for(targets: &[Option<SymbolId>], symbol: usize, target: usize) -> bool {
-    match targets.get(symbol) {
-        Some(Some(found)) => found.as_usize() == target,
-        _ => false,
-    }
 }
 
 /// An object asks for a name that 10,000 members define, each weakly but the last: of these only the first is loaded.

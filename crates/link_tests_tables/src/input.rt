@@ -1,14 +1,15 @@
-//! Tests of the texts of redirects, of the readers of export lists, and that definitions are made and a table is kept where there is
-//! enough memory. Which tables are refused is in the contracts, and in worked examples (`checked_tables`); what the options give the
+//! Tests of the texts of redirects, of the readers of export lists, and that definitions are made, inputs are copied and a table is
+//! kept where there is enough memory. Which tables are refused is in the contracts, and in worked examples (`checked_tables`); what the options give the
 //! prelude, and what is read back of tables, the built program shows.
 
+use crate::resolved::inputs;
 use link_input::{
     ElfLike, InputObject, InternalSymDefInfo, InternalSymbolsBuilder, MachLike, ObjectTable,
     Platform, RedirectKind, SymbolPlacement,
 };
 use link_names::{Name, Seq};
 use link_script::{ExportList, Plain};
-use link_script_syntax::ScriptFault;
+use link_script_syntax::{ScriptFault, ScriptProfile};
 use std::alloc::{AllocError, Global};
 use std::test::Fail;
 
@@ -86,6 +87,14 @@ fn definitions_are_built_one_by_one(rt: HostRuntime) -> Result<(), Fail> {
 }
 
 #[test]
+fn inputs_are_copied(rt: HostRuntime) -> Result<(), Fail> {
+    let given = inputs(rt.alloc())?;
+    let copy = given.copied(rt.alloc())?;
+    assert!(rt; copy.same(&given));
+    Ok(())
+}
+
+#[test]
 fn a_table_is_kept(rt: HostRuntime) -> Result<(), Fail> {
     let alloc = rt.alloc();
     let lib_name = Name::from_slice(alloc, b"")?;
@@ -118,7 +127,7 @@ fn is_told<P: Platform>(
     text: &[u8],
     want: Result<Listed, &str>,
 ) -> Result<bool, AllocError> {
-    match (P::parse_export_list(alloc, text), want) {
+    match (P::parse_export_list(alloc, text, ScriptProfile::Wild), want) {
         (Ok(list), Ok(listed)) => Ok(is_list(&list, listed)),
         (Err(ScriptFault::Text(error)), Err(fault)) => {
             Ok(format!(in alloc; "{error}")?.as_str() == fault)

@@ -61,7 +61,7 @@ fn stubs(alloc: Global) -> Result<Seq<StubLibrary>, AllocError> {
 }
 
 /// Two regular objects, a shared one, a linker script and a stub library.
-fn inputs(alloc: Global) -> Result<Inputs<ElfLike>, Fail> {
+pub fn inputs(alloc: Global) -> Result<Inputs<ElfLike>, Fail> {
     Ok(Inputs {
         objects: objects(alloc)?,
         scripts: scripts(alloc)?,

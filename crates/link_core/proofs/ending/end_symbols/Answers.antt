@@ -19,7 +19,7 @@ returns-clause-ended g c = λ demangle w l is.
     ∙ (ap (λ (fs : List ℕ). flags_by_script (seen c.args.db.now) l.stage.rules.rust_names fs) is.flags ∙ rust-narrows (seen c.args.db.now) c.args.resolver.now.known l l.stage.rules.rust_names is.settled is.table) in
     ended-with (platform_of g.P.Platform) demangle w l (seen c.args.db.now) (seen c.canonicalise_undefined.new.db) (numbers_of (words_of c.args.flags.now)) (numbers_of (words_of c.canonicalise_undefined.new.flags)) c.args.resolver.now is
     c.in_ok-undefined.ensures.symbols c.in_ok-undefined.ensures.objects c.in_ok-undefined.ensures.options c.in_ok-undefined.ensures.rules (c.in_ok-undefined.ensures.table l is.settled sections is.table)
-    (c.in_ok-undefined.ensures.added l is.settled sections) (c.in_ok-undefined.ensures.flags l is.settled sections is.table
+    (c.in_ok-undefined.ensures.added l is.settled sections) (c.in_ok-undefined.ensures.meanings l is.settled sections) (c.in_ok-undefined.ensures.flags l is.settled sections is.table
     (subst (λ (ms : List Bool). AreGroupsOf ms l.stage.objects c.args.resolver.now.groups) (sym is.settled.marks) is.groups) narrowed)
 
 pub returns-clause-undefined : goal.returns-clause-undefined

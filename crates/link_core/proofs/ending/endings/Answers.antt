@@ -8,8 +8,9 @@ use Rattle.link_rules.specs.Versions.{version_refusal}
 use Rattle.link_db.specs.Seen.{seen}
 use Rattle.link_resolve.specs.Known.{Known}
 use Rattle.link_resolve.specs.Settled.{IsEnded}
+use Rattle.link_core.specs.Steps.{IsRefusedBehind}
 use Rattle.link_core.proofs.Answering.{missing-are, same-answer}
-use Rattle.link_core.proofs.Passing.{refused-by, refused-through}
+use Rattle.link_core.proofs.Passing.{refused-through, told-by}
 use Rattle.link_core.proofs.Refusing.{goes-on, refused-by-version}
 use Rattle.link_core.proofs.ending.endings.Goals as goal
 
@@ -22,10 +23,13 @@ returns-in_err-versions-clause-refused g c =
     let at = c.in_ok-undefined.ensures.ended demangle w l is in
     let ended = subst (λ (k : Known). IsEnded (platform_of g.P.Platform) demangle (seen c.end_symbols.new.db) k l) (sym c.resolved.ensures) at.ended in
     let told : TellsCause {A = Unit {0}} (version_refusal (resolved l)) (Err e) = c.in_err-versions.ensures.cause l ended in
-    refused-by (Unit {0}) w (version_refusal (resolved l)) e (λ by. refused-by-version w l e at.selects at.duplicates by) told)
+    told-by (Unit {0}) (IsRefusedBehind w e) (version_refusal (resolved l)) e (λ by. refused-by-version w l e at.selects at.duplicates by) told)
 
 pub returns-clause-objects : goal.returns-clause-objects
 returns-clause-objects g c = λ w l is. sym (c.in_ok-undefined.ensures.ended (g.D.Demangler.demangled c.args.demangler.now) w l is).objects
+
+pub returns-clause-kept : goal.returns-clause-kept
+returns-clause-kept g c = λ w l is. (c.in_ok-undefined.ensures.ended (g.D.Demangler.demangled c.args.demangler.now) w l is).kept
 
 -- all parts make the answer of the world
 pub returns-clause-linked : goal.returns-clause-linked

@@ -17,7 +17,7 @@ returns-clause-new g c = λ demangle.
     let empty = c.in_ok-db.ensures.empty in
     record {
       groups = ap (λ (d : Database g.row.P.Denot). d.mapping.files.groups) empty;
-      known_is = c.new-resolver.ensures;
+      known_is = c.new-resolver.ensures.known;
       texts_read = λ first later. c.in_ok-db.ensures.cause (world_of (platform_of g.P.Platform) demangle (given_in_batches first later c.args.options c.args.texts.now))
           (record { same_options = refl; same_texts = refl; list_fault = refl });
       ready = λ w options texts.
@@ -26,7 +26,7 @@ returns-clause-new g c = λ demangle.
           (ap (λ (d : Database g.row.P.Denot). d.mapping) empty)
           (subst (λ (o : Options). HoldsTexts (platform_of g.P.Platform) o w.texts [] (seen c.in_ok-db.db).rules) (sym options)
           (subst (λ (t : Scripts). HoldsTexts (platform_of g.P.Platform) c.args.options t [] (seen c.in_ok-db.db).rules) (sym texts) c.in_ok-db.ensures.holds))
-          (ap (λ (ws : List RawFlags). numbers_of ws) c.new-flags.ensures) c.new-resolver.ensures;
+          (ap (λ (ws : List RawFlags). numbers_of ws) c.new-flags.ensures) c.new-resolver.ensures.known;
     }
 
 -- nothing is known of any symbol
@@ -34,4 +34,4 @@ pub returns-clause-steady : goal.returns-clause-steady
 returns-clause-steady g c =
     let empty = c.in_ok-db.ensures.empty in
     nothing-steady (seen c.in_ok-db.db) (words_of c.new-flags.result) c.new-resolver.result.known (ap (λ (d : Database g.row.P.Denot). d.mapping) empty)
-    (ap (λ (d : Database g.row.P.Denot). d.table) empty) c.new-flags.ensures c.new-resolver.ensures
+    (ap (λ (d : Database g.row.P.Denot). d.table) empty) c.new-flags.ensures c.new-resolver.ensures.known

@@ -7,7 +7,8 @@ use Rattle.link_db.specs.Database.{Database}
 use Rattle.link_db.specs.Seen.{seen}
 use Rattle.link_resolve.specs.Known.{IsSelection, Known}
 use Rattle.link_resolve.specs.Settled.{IsSettled}
-use Rattle.link_core.proofs.Passing.{refused-by, refused-through, settled-with}
+use Rattle.link_core.specs.Steps.{IsRefusedBehind}
+use Rattle.link_core.proofs.Passing.{refused-through, settled-with, told-by}
 use Rattle.link_core.proofs.Refusing.{refused-by-duplicates}
 use Rattle.link_core.proofs.settling.settle_rivals.Goals as goal
 
@@ -18,7 +19,7 @@ returns-in_err-left-clause-refused g c =
     refused-through c.from_residual.result _ e c.from_residual.ensures.1 (λ demangle w l loaded.
     let known = subst (λ (k : Known). IsSelection (platform_of g.P.Platform) demangle (seen c.args.db) k l) (sym c.resolved.ensures) loaded.selection in
     let told : TellsCause {A = Unit {0}} (unless_none (duplicate_lines l)) (Err e) = c.in_err-left.ensures.cause demangle l known loaded.table in
-    refused-by (Unit {0}) w (unless_none (duplicate_lines l)) e (λ is. refused-by-duplicates w l e loaded.selects is) told)
+    told-by (Unit {0}) (IsRefusedBehind w e) (unless_none (duplicate_lines l)) e (λ is. refused-by-duplicates w l e loaded.selects is) told)
 
 -- each name has the definition that counts
 pub returns-clause-settled : goal.returns-clause-settled

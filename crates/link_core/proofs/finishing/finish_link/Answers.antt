@@ -1,7 +1,7 @@
 use Rattle.std.proofs.Common.{inr, refl}
 use Rattle.link_rules.specs.declared.refusal.LinkError.TheVariants.{Memory}
 use Rattle.link_core.proofs.Passing.{err-into, ok-into, refused-through}
-use Rattle.link_core.proofs.link.finish_link.Goals as goal
+use Rattle.link_core.proofs.finishing.finish_link.Goals as goal
 
 -- the rivals are the cause
 pub returns-in_err-db-clause-refused : goal.returns-in_err-db-clause-refused
@@ -19,6 +19,11 @@ pub returns-clause-objects : goal.returns-clause-objects
 returns-clause-objects g c =
     let demangle = g.D.Demangler.demangled c.args.demangler.now in
     ok-into c.end_link.result _ _ (λ linked held. λ w l loaded. held w l (c.in_ok-db.ensures.settled demangle w l (c.in_ok-point_symbols.ensures.pointed demangle w l loaded))) c.end_link.ensures.objects
+
+pub returns-clause-kept : goal.returns-clause-kept
+returns-clause-kept g c =
+    let demangle = g.D.Demangler.demangled c.args.demangler.now in
+    ok-into c.end_link.result _ _ (λ linked held. λ w l loaded. held w l (c.in_ok-db.ensures.settled demangle w l (c.in_ok-point_symbols.ensures.pointed demangle w l loaded))) c.end_link.ensures.kept
 
 pub returns-clause-linked : goal.returns-clause-linked
 returns-clause-linked g c =
