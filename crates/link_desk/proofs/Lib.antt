@@ -1,0 +1,9 @@
+pub mod Calls
+pub mod Closings
+pub mod Counting
+pub mod Found
+pub mod Naming
+pub mod Refusing
+pub mod Replays
+pub mod Seeing
+pub mod Selections

@@ -1,0 +1,6 @@
+pub mod Closing
+pub mod Openings
+pub mod Passes
+pub mod Replay
+pub mod Replies
+pub mod Seeing
