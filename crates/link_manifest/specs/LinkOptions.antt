@@ -7,11 +7,12 @@ use Rattle.link_input.specs.declared.internal_symbols.SymbolPlacement.TheVariant
 use Rattle.link_input.specs.declared.options.Options.{Options}
 use Rattle.link_input.specs.declared.options.OutputKind.TheVariants.{StaticExecutable}
 use Rattle.link_input.specs.declared.world.Scripts.{Scripts}
+use Rattle.link_script_syntax.specs.declared.profile.ScriptProfile.TheVariants.{Wild}
 use Rattle.link_manifest.specs.declared.words.PlacementName.{PlacementName}
 use Rattle.link_manifest.specs.declared.words.PlacementName.TheVariants as placement
 use Rattle.link_manifest.specs.declared.fault.ManifestFault.{ManifestFault}
 use Rattle.link_manifest.specs.Reading.{and_read, object_of_keys, required, optional, or_null, list_read}
-use Rattle.link_manifest.specs.Values.{bytes_read, bool_read, number_read, group_size_read}
+use Rattle.link_manifest.specs.Values.{bytes_read, bool_read, number_read, group_size_read, profile_read}
 use Rattle.link_manifest.specs.Words.{word_read, output_words, placement_words}
 use Rattle.link_manifest.specs.Redirects.{defsym_read}
 
@@ -36,7 +37,7 @@ linker_symbol_read value =
     and_read (optional (codes "hidden") bool_read false value) (λ hidden.
     Ok (record { placement = placement_at placement section; name = name; hidden = hidden }))))))
 
--- names are never shown demangled
+-- the options of the keys in front of the files; names are never shown demangled
 abbrev pub options_read : Data → Result Options ManifestFault
 options_read value =
     and_read (optional (codes "output") (word_read output_words) StaticExecutable value) (λ output.
@@ -63,7 +64,16 @@ options_read value =
       linker_symbols = linker_symbols;
       custom_sections = custom_sections;
       demangle = false;
+      script_profile = Wild;
+      soname = None;
     }))))))))))))
+
+-- these options with those of the keys behind the files
+abbrev pub later_options_read : Options → Data → Result Options ManifestFault
+later_options_read options value =
+    and_read (optional (codes "script_profile") profile_read Wild value) (λ profile.
+    and_read (optional (codes "soname") (or_null bytes_read) None value) (λ soname.
+    Ok (record options { script_profile = profile; soname = soname })))
 
 -- the texts of the version script and of the export list
 abbrev pub texts_read : Data → Result Scripts ManifestFault

@@ -13,7 +13,7 @@ use Rattle.link_manifest.specs.declared.words.PlatformName.{PlatformName}
 use Rattle.link_manifest.specs.declared.words.PlatformName.TheVariants as platform
 use Rattle.link_manifest.specs.Reading.{fault_here, and_read, read_or, object_of_keys, optional}
 use Rattle.link_manifest.specs.Words.{word_read, platform_words}
-use Rattle.link_manifest.specs.LinkOptions.{options_read, texts_read}
+use Rattle.link_manifest.specs.LinkOptions.{options_read, later_options_read, texts_read}
 use Rattle.link_manifest.specs.Batches.{batches_read, inputs_of}
 use Rattle.link_manifest.specs.Checked.{contents_checked}
 
@@ -21,7 +21,7 @@ abbrev pub root_keys : List (List ℕ)
 root_keys =
     codes "platform" ∷ codes "output" ∷ codes "entry" ∷ codes "default_entry" ∷ codes "allow_multiple" ∷ codes "files_per_group" ∷ codes "wrap"
     ∷ codes "force_undefined" ∷ codes "force_export" ∷ codes "defsym" ∷ codes "linker_symbols" ∷ codes "custom_sections" ∷ codes "version_script"
-    ∷ codes "export_list" ∷ codes "objects" ∷ codes "scripts" ∷ codes "stubs" ∷ codes "batches" ∷ []
+    ∷ codes "export_list" ∷ codes "objects" ∷ codes "scripts" ∷ codes "stubs" ∷ codes "batches" ∷ codes "script_profile" ∷ codes "soname" ∷ []
 
 -- what the root says behind its platform, where that has a null entry or has none
 abbrev pub contents_read : Bool → Data → Result Contents ManifestFault
@@ -29,7 +29,8 @@ contents_read has_null value =
     and_read (options_read value) (λ options.
     and_read (texts_read value) (λ texts.
     and_read (batches_read has_null value) (λ batches.
-    Ok (record { options = options; texts = texts; first = batches.0; later = batches.1 }))))
+    and_read (later_options_read options value) (λ options.
+    Ok (record { options = options; texts = texts; first = batches.0; later = batches.1 })))))
 
 -- the world of some contents
 abbrev pub world_of : {P : Type 0} → Contents → World P

@@ -1,5 +1,5 @@
 -- Kinds of value of a manifest, and what a value of each stands for.
-use Rattle.std.specs.Prelude.{ℕ, ◌^◌, ◌&&◌, List, [], ◌∷◌, Bool, Option, Some, None, Result, codes, nat_le, nat_lt, option_map, option_and_then, if◌then◌else◌}
+use Rattle.std.specs.Prelude.{ℕ, ◌^◌, ◌==◌, ◌&&◌, List, [], ◌∷◌, Bool, Option, Some, None, Result, codes, nat_le, nat_lt, option_map, option_and_then, if◌then◌else◌}
 use Rattle.std.specs.Option.{option_or}
 use Rattle.std.specs.Result.{result_ok}
 use Rattle.std.specs.Str.{bytes_eq}
@@ -8,6 +8,8 @@ use Rattle.serde_json.specs.Data.{Data, Members, no_members, member}
 use Rattle.serde_json.specs.Find.{as_bool, as_number, as_object, as_str, as_u64}
 use Rattle.link_input.specs.declared.symbol_entry.Place.{Place}
 use Rattle.link_input.specs.declared.symbol_entry.Place.TheVariants.{Undefined, Absolute, Common, Section}
+use Rattle.link_script_syntax.specs.declared.profile.ScriptProfile.{ScriptProfile}
+use Rattle.link_script_syntax.specs.declared.profile.ScriptProfile.TheVariants.{Wild, Lenient}
 use Rattle.link_names.specs.Names.{value_in}
 use Rattle.link_manifest.specs.declared.fault.Kind.TheVariants as kind
 use Rattle.link_manifest.specs.declared.fault.Problem.TheVariants.{Expected}
@@ -59,6 +61,16 @@ group_size_of value = option_and_then (λ n. if nat_le 1 n && nat_le n 256 then 
 
 abbrev pub group_size_read : Data → Result ℕ ManifestFault
 group_size_read value = read_or (Expected kind.Number) (group_size_of value)
+
+-- the number of a profile in which scripts are read: 1 is Wild's, 2 the lenient one
+abbrev pub profile_numbered : ℕ → Option ScriptProfile
+profile_numbered n = if n == 1 then Some Wild else (if n == 2 then Some Lenient else None)
+
+abbrev pub profile_of : Data → Option ScriptProfile
+profile_of value = option_and_then profile_numbered (number_of value)
+
+abbrev pub profile_read : Data → Result ScriptProfile ManifestFault
+profile_read value = read_or (Expected kind.Number) (profile_of value)
 
 -- the words for places outside every section
 abbrev pub place_words : List (List ℕ × Place)

@@ -11,6 +11,7 @@ ghost use Rattle.link_manifest.specs.declared.fault.Kind.TheVariants as kind;
 ghost use Rattle.link_manifest.specs.declared.fault.ManifestFault.{ManifestFault};
 ghost use Rattle.link_manifest.specs.declared.manifest.Manifest.TheVariants.{Mach};
 ghost use Rattle.link_input.specs.Defaults.{default_options};
+ghost use Rattle.link_script_syntax.specs.declared.profile.ScriptProfile.TheVariants as profile;
 ghost use Rattle.link_input.specs.declared.internal_symbols.InternalSymDefInfo.{InternalSymDefInfo};
 ghost use Rattle.link_input.specs.declared.internal_symbols.RedirectKind.TheVariants as redirect;
 ghost use Rattle.link_input.specs.declared.internal_symbols.SymbolPlacement.TheVariants.{TlsEnd, LoadBaseAddress};
@@ -95,6 +96,17 @@ pub fn read_options()
         ≡ Ok (elf_manifest (of_options (record default_options {
           linker_symbols = record { placement = TlsEnd 3; name = codes "t"; hidden = true } ∷ record { placement = LoadBaseAddress; name = codes "b"; hidden = false } ∷ [];
         }))) }
+{}
+
+/// What the keys behind the files give, and which of several faults is told: that of the files.
+pub fn read_later_options()
+    ensures keys { manifest_of (codes "{\"script_profile\":2,\"soname\":\"l\"}")
+        ≡ Ok (elf_manifest (of_options (record default_options { script_profile = profile.Lenient; soname = Some (codes "l") }))) }
+    ensures first_profile { manifest_of (codes "{\"script_profile\":1,\"soname\":null}") ≡ Ok (elf_manifest (of_options default_options)) }
+    ensures no_profile { manifest_of (codes "{\"script_profile\":3}") ≡ Err (record { path = Key (codes "script_profile") ∷ []; problem = Problem.Expected kind.Number }) }
+    ensures files_first { manifest_of (codes "{\"soname\":1,\"script_profile\":0,\"batches\":2}") ≡ Err (record { path = Key (codes "batches") ∷ []; problem = Problem.Expected kind.List }) }
+    ensures profile_first { manifest_of (codes "{\"soname\":1,\"script_profile\":0}") ≡ Err (record { path = Key (codes "script_profile") ∷ []; problem = Problem.Expected kind.Number }) }
+    ensures soname { manifest_of (codes "{\"soname\":1}") ≡ Err (record { path = Key (codes "soname") ∷ []; problem = Problem.Expected kind.Bytes }) }
 {}
 
 /// What texts, linker scripts and stub libraries give.

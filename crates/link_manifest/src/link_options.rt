@@ -3,17 +3,18 @@
 ghost use Rattle.std.specs.Prelude.{◌≡◌, codes, IfOk};
 ghost use Rattle.link_manifest_json.specs.Tree.{view};
 ghost use Rattle.link_manifest.specs.Checked.{IsGroupSize};
-ghost use Rattle.link_manifest.specs.LinkOptions.{placement_at, linker_symbol_read, options_read, texts_read};
+ghost use Rattle.link_manifest.specs.LinkOptions.{placement_at, linker_symbol_read, options_read, later_options_read, texts_read};
 ghost use Rattle.link_manifest.specs.Reading.{optional, Reads};
 ghost use Rattle.link_manifest.specs.Values.{group_size_read};
 
 use crate::fault::ManifestError;
 use crate::reading::{Readable, nullable, object_of_keys, optional, optional_list, required};
 use crate::redirects::Defsym;
-use crate::values::{Bytes, Flag, GroupSize, Number};
+use crate::values::{Bytes, Flag, GroupSize, Number, Profile};
 use crate::words::{OneOf, PlacementName};
 use json::Value;
 use link_input::{InternalSymDefInfo, Options, OutputKind, Scripts, SymbolPlacement};
+use link_script_syntax::ScriptProfile;
 use std::alloc::Global;
 
 /// Where a symbol of the linker stands, of this section where the place is of one.
@@ -60,7 +61,7 @@ fn files_per_group(alloc: Global, value: &Value<'_>) -> Result<u32, ManifestErro
     optional::<GroupSize>(alloc, value, "files_per_group", 256)
 }
 
-/// The options, of which the root holds the keys.
+/// The options, of which the root holds the keys in front of the files.
 pub(crate) fn options(alloc: Global, value: &Value<'_>) -> Result<Options, ManifestError>
     ensures read { Reads result (options_read (view value.now)) }
     ensures group_size { IfOk result (λ options. IsGroupSize options.files_per_group) }
@@ -90,7 +91,24 @@ pub(crate) fn options(alloc: Global, value: &Value<'_>) -> Result<Options, Manif
         linker_symbols,
         custom_sections,
         demangle: false,
+        script_profile: ScriptProfile::Wild,
+        soname: None,
     })
+}
+
+/// These options with those of which the root holds the keys behind the files.
+pub(crate) fn later_options(
+    alloc: Global,
+    value: &Value<'_>,
+    mut options: Options,
+) -> Result<Options, ManifestError>
+    ensures read { Reads result (later_options_read options (view value.now)) }
+    ensures group_size { IfOk result (λ read. read.files_per_group ≡ options.files_per_group) }
+{
+    let profile = ScriptProfile::Wild;
+    options.script_profile = optional::<Profile>(alloc, value, "script_profile", profile)?;
+    options.soname = nullable::<Bytes>(alloc, value, "soname")?;
+    Ok(options)
 }
 
 /// The texts of the version script and of the export list, of which the root holds the keys.

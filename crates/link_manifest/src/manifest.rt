@@ -10,7 +10,7 @@ ghost use Rattle.link_manifest.specs.Reading.{IsFaultOf, Reads, and_read, read_o
 use crate::batches::{batches, checked_batch, checked_batches, few_batches};
 use crate::contents::Contents;
 use crate::fault::{ManifestError, Problem};
-use crate::link_options::{options, texts};
+use crate::link_options::{later_options, options, texts};
 use crate::path::fault_here;
 use crate::reading::{object_of_keys, optional};
 use crate::sections::sections_checked;
@@ -39,6 +39,7 @@ fn contents<P: Platform>(alloc: Global, value: &Value<'_>) -> Result<Contents, M
     let options = options(alloc, value)?;
     let texts = texts(alloc, value)?;
     let (first, later) = batches::<P>(alloc, value)?;
+    let options = later_options(alloc, value, options)?;
     Ok(Contents {
         options,
         texts,
@@ -110,6 +111,8 @@ fn root(alloc: Global, value: &Value<'_>) -> Result<Manifest, ManifestError>
             "scripts",
             "stubs",
             "batches",
+            "script_profile",
+            "soname",
         ],
     )?;
     match optional::<OneOf<PlatformName>>(alloc, value, "platform", PlatformName::Elf)? {

@@ -7,7 +7,7 @@ ghost use Rattle.link_names.specs.Names.{value_in};
 ghost use Rattle.link_manifest.specs.declared.fault.Kind.TheVariants as kind;
 ghost use Rattle.link_manifest.specs.declared.fault.Problem.TheVariants.{Expected};
 ghost use Rattle.link_manifest.specs.Reading.{read_or, Reads};
-ghost use Rattle.link_manifest.specs.Values.{text_read, hex_text, hex_bytes, bytes_read, bool_read, number_of, number_read, size_read, group_size_of, group_size_read, place_words, place_of, place_read};
+ghost use Rattle.link_manifest.specs.Values.{text_read, hex_text, hex_bytes, bytes_read, bool_read, number_of, number_read, size_read, group_size_of, group_size_read, profile_of, profile_read, place_words, place_of, place_read};
 
 use crate::fault::{Kind, ManifestError, Problem};
 use crate::path::fault_here;
@@ -17,6 +17,7 @@ use json::Value;
 use link_input::Place;
 use link_manifest_json::{to_bool, to_text, to_u64};
 use link_names::Name;
+use link_script_syntax::ScriptProfile;
 use std::alloc::Global;
 
 /// A JSON text.
@@ -160,6 +161,33 @@ impl Readable for GroupSize {
     fn read(alloc: Global, value: &Value<'_>) -> Result<u32, ManifestError> {
         match group_size_of(value) {
             Some(size) => Ok(size),
+            None => Err(fault_here(alloc, Problem::Expected(Kind::Number))),
+        }
+    }
+}
+
+/// The number of a profile in which scripts are read.
+pub(crate) struct Profile;
+
+/// The profile of number 1, Wild's, or of number 2, the lenient one.
+fn profile_of(value: &Value<'_>) -> Option<ScriptProfile>
+    ensures { result ≡ profile_of (view value.now) }
+{
+    match number_of(value)? {
+        1 => Some(ScriptProfile::Wild),
+        2 => Some(ScriptProfile::Lenient),
+        _ => None,
+    }
+}
+
+impl Readable for Profile {
+    type Read = ScriptProfile;
+
+    ghost read = { profile_read };
+
+    fn read(alloc: Global, value: &Value<'_>) -> Result<ScriptProfile, ManifestError> {
+        match profile_of(value) {
+            Some(profile) => Ok(profile),
             None => Err(fault_here(alloc, Problem::Expected(Kind::Number))),
         }
     }

@@ -6,7 +6,7 @@ ghost use Rattle.link_core_answer.specs.Parts.{answer_of};
 ghost use Rattle.link_core_answer.specs.Seen.{seen};
 ghost use Rattle.link_report.specs.Summary.{count_line, discarded_comdats, loaded_members, summary_text};
 
-use crate::counts::{comdats_of_all, member_count};
+use crate::counts::{discarded_count, member_count};
 use link_core_answer::Linked;
 use link_input::Platform;
 use std::alloc::{AllocError, Global};
@@ -28,10 +28,9 @@ fn loaded_counts<P: Platform>(alloc: Global, linked: &Linked<P>) -> Result<Loade
         ≡ discarded_comdats (objects_in (seen linked.now).db.mapping.files.groups) (answer_of (seen linked.now))) }
 {
     let loaded = linked.loaded_objects(alloc)?;
-    let kept = linked.kept_comdats().len();
     Ok(LoadedCounts {
         members: member_count(&loaded),
-        discarded: comdats_of_all(&loaded).saturating_sub(kept as u128),
+        discarded: discarded_count(alloc, linked.kept_comdats(), &loaded)?,
     })
 }
 
