@@ -2,3 +2,4 @@ pub mod Numerals
 pub mod TooLong
 pub mod OneText
 pub mod OfWorld
+pub mod VerdefEndings

@@ -30,6 +30,12 @@ same-of_parse bs n m r fits is parses read = ok-inj r m n read (parse-decimal 64
 pub no-err_of_parse : {E : Type 0} (bs : List ℕ) (n : ℕ) (r : Result ℕ E) (e : E) → n < 2 ^ 64 → bs ≡ decimal n → ParsesUnsigned 64 10 bs r → r ≡ Err e → ⊥
 no-err_of_parse bs n r e fits is parses fails = let read : r ≡ Ok n = parse-decimal 64 n bs r fits fits is parses in cc
 
+-- one word
+pub one-word : (words : List (List ℕ)) (a x : List ℕ) → length words ≡ 1 → a ≡ get_or words 0 a → a ≡ x → words ≡ x ∷ []
+one-word [] a x one first is_x = absurd (omega arith)
+one-word (v ∷ []) a x one first is_x = cc
+one-word (v ∷ w ∷ ws) a x one first is_x = absurd (omega arith)
+
 -- two words
 pub two-words : (words : List (List ℕ)) (a b x y : List ℕ) → length words ≡ 2 → a ≡ get_or words 0 a → b ≡ get_or words 1 b → a ≡ x → b ≡ y → words ≡ x ∷ y ∷ []
 two-words [] a b x y two first second is_x is_y = absurd (omega arith)

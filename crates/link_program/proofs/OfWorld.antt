@@ -13,13 +13,20 @@ use Rattle.link_rules.specs.Answer.{IsLinked, IsRefused}
 use Rattle.link_rules.specs.Places.{Bytes}
 use Rattle.link_rules.specs.Report.{refusal_text}
 use Rattle.link_rules.specs.World.{World}
+use Rattle.link_input.specs.declared.options.Options.{Options}
+use Rattle.link_input.specs.declared.world.Scripts.{Scripts}
+use Rattle.link_manifest.specs.declared.fault.ManifestFault.{ManifestFault}
 use Rattle.link_manifest.specs.declared.manifest.Manifest.{Manifest as Described}
 use Rattle.link_manifest.specs.Manifest.{manifest_of}
 use Rattle.link_program.specs.declared.status.Status.{Status}
 use Rattle.link_program.specs.declared.status.Status.TheVariants.{Linked, Refused, Usage, Manifest, ReadFault, WriteFault, Memory}
+use Rattle.link_program.specs.declared.run.Reading.{Reading}
+use Rattle.link_program.specs.declared.run.Reading.TheVariants as asked
 use Rattle.link_program.specs.declared.run.Told.TheVariants.{Report, Summary}
-use Rattle.link_program.specs.Grammar.{IsBulk, IsLink}
-use Rattle.link_program.specs.Outcome.{error_line, given_of, objects_given, told_text, world_of_manifest, IsLinkText, IsSummary, IsTextFor, IsTextOf, IsWorldText}
+use Rattle.link_program.specs.Grammar.{IsBulk}
+use Rattle.link_program.specs.Described.{error_line, given_of, objects_given, world_of_manifest}
+use Rattle.link_program.specs.Outcome.{told_text, text_read, IsReadText, IsSummary, IsTextFor, IsTextOf, IsTextRead, IsWholeText, IsWorldText}
+use Rattle.link_program.specs.Verdef.{manifest_ending, refused_or, soname_ending, IsVerdefOf}
 
 -- what is reported of a link of what some bytes describe, is so of the bytes
 pub text-of_link : (bytes : Bytes) (m : Described) (s : Status) (text : Bytes) → manifest_of bytes ≡ Ok m
@@ -32,25 +39,77 @@ text-of_link bytes m ReadFault text is held = absurd held
 text-of_link bytes m WriteFault text is held = absurd held
 text-of_link bytes m Memory text is held = absurd held
 
--- what holds of the bytes that a source had left, holds of what it had left
-pub link-text : (left : Option Bytes) (bytes : Bytes) (s : Status) (text : Bytes) → IfSome left (λ all. all ≡ bytes) → IsTextOf bytes s text → IsLinkText left s text
-link-text left bytes Linked text whole held = (bytes, whole, held)
-link-text left bytes Refused text whole held = (bytes, whole, held)
-link-text left bytes Manifest text whole held = (bytes, whole, held)
-link-text left bytes Usage text whole held = absurd held
-link-text left bytes ReadFault text whole held = absurd held
-link-text left bytes WriteFault text whole held = absurd held
-link-text left bytes Memory text whole held = absurd held
+-- such a status comes of bytes that were read
+abbrev pub IsAnswer : Status → Type 0
+IsAnswer Linked = Unit {0}
+IsAnswer Refused = Unit {0}
+IsAnswer Manifest = Unit {0}
+IsAnswer Usage = ⊥
+IsAnswer ReadFault = ⊥
+IsAnswer WriteFault = ⊥
+IsAnswer Memory = ⊥
 
--- what holds of a link, holds of the words that ask for it
-pub words-text : (words : List Bytes) (left : Option Bytes) (s : Status) (text : Bytes) → IsLink words → IsLinkText left s text → IsTextFor words left s text
-words-text words left Linked text link held = inl (link, held)
-words-text words left Refused text link held = (link, held)
-words-text words left Manifest text link held = (link, held)
-words-text words left ReadFault text link held = (link, held)
-words-text words left Usage text link held = absurd held
-words-text words left WriteFault text link held = absurd held
-words-text words left Memory text link held = absurd held
+-- of a link only these come
+link-answers : (bytes : Bytes) (s : Status) (text : Bytes) → IsTextOf bytes s text → IsAnswer s
+link-answers bytes Linked text held = tt
+link-answers bytes Refused text held = tt
+link-answers bytes Manifest text held = tt
+link-answers bytes Usage text held = held
+link-answers bytes ReadFault text held = held
+link-answers bytes WriteFault text held = held
+link-answers bytes Memory text held = held
+
+refused-answers : (cause : Option Bytes) (text : Bytes) → IsAnswer (refused_or cause text).0
+refused-answers None text = tt
+refused-answers (Some cause) text = tt
+
+soname-answers : (options : Options) (texts : Scripts) (soname : Option Bytes) → IsAnswer (soname_ending options texts soname).0
+soname-answers options texts None = tt
+soname-answers options texts (Some soname) = refused-answers _ _
+
+ending-answers : (m : Result Described ManifestFault) → IsAnswer (manifest_ending m).0
+ending-answers (Ok m) = soname-answers (given_of m).options (given_of m).texts (given_of m).options.soname
+ending-answers (Err fault) = tt
+
+-- nor do others of version definitions
+verdef-answers : (bytes : Bytes) (s : Status) (text : Bytes) → IsVerdefOf bytes s text → IsAnswer s
+verdef-answers bytes s text held = subst (λ (ending : Status × Bytes). IsAnswer ending.0) held (ending-answers (manifest_of bytes))
+
+answers-read : (reading : Reading) (bytes : Bytes) (s : Status) (text : Bytes) → text_read reading bytes s text → IsAnswer s
+answers-read (asked.Link workers) bytes s text held = link-answers bytes s text held
+answers-read asked.Verdef bytes s text held = verdef-answers bytes s text held
+
+-- bytes that were read end with no fault of reading
+pub never-read_fault : (reading : Reading) (bytes : Bytes) (s : Status) (text : Bytes) → text_read reading bytes s text → s ≡ ReadFault → ⊥
+never-read_fault reading bytes s text held is = subst (λ (t : Status). IsAnswer t) is (answers-read reading bytes s text held)
+
+-- what is said of bytes, holds of what a source had left
+left-text : (IsOf : Bytes → Status → Bytes → Type 0) (left : Option Bytes) (s : Status) (text : Bytes) → IsAnswer s → IsWholeText IsOf left s text → IsReadText IsOf left s text
+left-text IsOf left Linked text answer whole = whole
+left-text IsOf left Refused text answer whole = whole
+left-text IsOf left Manifest text answer whole = whole
+left-text IsOf left Usage text answer whole = absurd answer
+left-text IsOf left ReadFault text answer whole = absurd answer
+left-text IsOf left WriteFault text answer whole = absurd answer
+left-text IsOf left Memory text answer whole = absurd answer
+
+-- what holds of the bytes that a source had left, holds of what it had left
+pub read-text : (reading : Reading) (left : Option Bytes) (bytes : Bytes) (s : Status) (text : Bytes) → IfSome left (λ all. all ≡ bytes) → text_read reading bytes s text
+    → IsReadText (text_read reading) left s text
+read-text reading left bytes s text whole held = left-text (text_read reading) left s text (answers-read reading bytes s text held) (bytes, whole, held)
+
+-- what holds of something that is read, holds of the words that ask for it
+pub words-text : (words : List Bytes) (left : Option Bytes) (s : Status) (text : Bytes) → IsTextRead words left s text → IsTextFor words left s text
+words-text words left Linked text held = inl held
+words-text words left Refused text held = held
+words-text words left Manifest text held = held
+words-text words left ReadFault text held = held
+words-text words left Usage text (inl held) = absurd held.1
+words-text words left Usage text (inr held) = absurd held.1
+words-text words left WriteFault text (inl held) = absurd held.1
+words-text words left WriteFault text (inr held) = absurd held.1
+words-text words left Memory text (inl held) = absurd held.1
+words-text words left Memory text (inr held) = absurd held.1
 
 -- so does the summary of a made-up link
 pub bulk-text : (words : List Bytes) (left : Option Bytes) (members : ℕ) (s : Status) (text : Bytes) → IsBulk words members → (s ≡ Linked) × IsSummary members text → IsTextFor words left s text

@@ -11,11 +11,13 @@ use Rattle.link_manifest.specs.declared.fault.ManifestFault.{ManifestFault}
 use Rattle.link_manifest.specs.declared.manifest.Manifest.{Manifest as Described}
 use Rattle.link_manifest.specs.FaultText.{fault_text}
 use Rattle.link_manifest.specs.Manifest.{manifest_of}
-use Rattle.link_program.specs.declared.command.Command.TheVariants.{Link, Bulk}
+use Rattle.link_program.specs.declared.command.Command.TheVariants.{Link, Bulk, Verdef}
 use Rattle.link_program.specs.declared.status.Status.{Status}
 use Rattle.link_program.specs.declared.status.Status.TheVariants.{Linked, Refused, Usage, Manifest, ReadFault, WriteFault, Memory}
-use Rattle.link_program.specs.Grammar.{IsBulk, IsLink, IsNoCommand}
-use Rattle.link_program.specs.Outcome.{error_line, world_of_manifest, IsDue, IsSummary, IsSummaryFor, IsTextFor, IsTextOf, IsWholeText}
+use Rattle.link_program.specs.Grammar.{IsBulk, IsLink, IsNoCommand, IsVerdef, ReadsManifest}
+use Rattle.link_program.specs.Described.{error_line, world_of_manifest}
+use Rattle.link_program.specs.Outcome.{IsDue, IsReadText, IsSummary, IsSummaryFor, IsTextFor, IsTextOf, IsTextRead, IsWholeText}
+use Rattle.link_program.specs.Verdef.{IsVerdefOf}
 use Rattle.link_report.specs.Summary.{summary_text}
 use Rattle.link_program.proofs.Numerals.{decimal-one}
 
@@ -82,11 +84,32 @@ one-text bytes Manifest ReadFault a b held held' = absurd held'
 one-text bytes Manifest WriteFault a b held held' = absurd held'
 one-text bytes Manifest Memory a b held held' = absurd held'
 
+-- and end `verdef` in one way
+one-verdef : (bytes : Bytes) (s t : Status) (a b : Bytes) → IsVerdefOf bytes s a → IsVerdefOf bytes t b → (s ≡ t) × (a ≡ b)
+one-verdef bytes s t a b held held' =
+    let same : (s, a) ≡ (t, b) = sym held ∙ held' in
+    (ap (λ (ending : Status × Bytes). ending.0) same, ap (λ (ending : Status × Bytes). ending.1) same)
+
+-- what is said of bytes has one status and one text
+abbrev IsOne : (Bytes → Status → Bytes → Type 0) → Type 0
+IsOne IsOf = (bytes : Bytes) (s t : Status) (a b : Bytes) → IsOf bytes s a → IsOf bytes t b → (s ≡ t) × (a ≡ b)
+
 -- so has a source that tells what it has left
-whole-text : (left : Option Bytes) (s t : Status) (a b : Bytes) → IsSome left → IsWholeText left s a → IsWholeText left t b → (s ≡ t) × (a ≡ b)
-whole-text None s t a b tells held held' = absurd (cc)
-whole-text (Some all) s t a b tells (bytes, are, held) (bytes', are', held') =
-    one-text all s t a b (subst (λ (bs : Bytes). IsTextOf bs s a) (sym are) held) (subst (λ (bs : Bytes). IsTextOf bs t b) (sym are') held')
+whole-text : (IsOf : Bytes → Status → Bytes → Type 0) → IsOne IsOf → (left : Option Bytes) (s t : Status) (a b : Bytes) → IsSome left
+    → IsWholeText IsOf left s a → IsWholeText IsOf left t b → (s ≡ t) × (a ≡ b)
+whole-text IsOf one None s t a b tells held held' = absurd (cc)
+whole-text IsOf one (Some all) s t a b tells (bytes, are, held) (bytes', are', held') =
+    one all s t a b (subst (λ (bs : Bytes). IsOf bs s a) (sym are) held) (subst (λ (bs : Bytes). IsOf bs t b) (sym are') held')
+
+-- what didn't fail was read whole
+read-whole : (IsOf : Bytes → Status → Bytes → Type 0) (left : Option Bytes) (s : Status) (text : Bytes) → (s ≡ ReadFault → ⊥) → IsReadText IsOf left s text → IsWholeText IsOf left s text
+read-whole IsOf left Linked text no_fault held = held
+read-whole IsOf left Refused text no_fault held = held
+read-whole IsOf left Manifest text no_fault held = held
+read-whole IsOf left ReadFault text no_fault held = absurd (no_fault refl)
+read-whole IsOf left Usage text no_fault held = absurd held
+read-whole IsOf left WriteFault text no_fault held = absurd held
+read-whole IsOf left Memory text no_fault held = absurd held
 
 -- ---- links of made-up worlds
 
@@ -105,30 +128,49 @@ summary-one words a b (m, is, (linked, done, shown)) (n, is', held') =
 
 -- ---- words
 
-link-is_command : (words : List Bytes) → IsLink words → IsNoCommand words → ⊥
-link-is_command words (workers, is) none = none (Link workers) is
+reads-is_command : (words : List Bytes) → ReadsManifest words → IsNoCommand words → ⊥
+reads-is_command words (inl link) none = none (Link link.0) link.1
+reads-is_command words (inr verdef) none = none Verdef verdef
 
 bulk-is_command : (words : List Bytes) (n : ℕ) → IsBulk words n → IsNoCommand words → ⊥
 bulk-is_command words n (workers, is) none = none (Bulk n workers) is
 
-link-not_bulk : (words : List Bytes) (n : ℕ) → IsLink words → IsBulk words n → ⊥
-link-not_bulk words n (workers, is) (workers', is') = let same = is.0 in let same' = is'.0 in cc
+reads-not_bulk : (words : List Bytes) (n : ℕ) → ReadsManifest words → IsBulk words n → ⊥
+reads-not_bulk words n (inl (workers, is)) (workers', is') = let same = is.0 in let same' = is'.0 in cc
+reads-not_bulk words n (inr is) (workers', is') = let same = is.0 in let same' = is'.0 in cc
 
-due-whole : (words : List Bytes) (left : Option Bytes) (s t : Status) (a b : Bytes) → IsDue words left s a → IsLink words → IsWholeText left t b → (t ≡ s) × (b ≡ a)
-due-whole words left Linked t a b (inl due) link held = whole-text left t Linked b a due.0 held due.2
-due-whole words left Linked t a b (inr bulk) link held = absurd (link-not_bulk words bulk.0 link bulk.1)
-due-whole words left Refused t a b due link held = whole-text left t Refused b a due.0 held due.1.1
-due-whole words left Manifest t a b due link held = whole-text left t Manifest b a due.0 held due.1.1
-due-whole words left Usage t a b due link held = absurd (link-is_command words link due.0)
-due-whole words left ReadFault t a b due link held = absurd due
-due-whole words left WriteFault t a b due link held = absurd due
-due-whole words left Memory t a b due link held = absurd due
+link-not_verdef : (words : List Bytes) → IsLink words → IsVerdef words → ⊥
+link-not_verdef words (workers, is) is' = let same = is.0 in let same' = is'.0 in cc
+
+reads-of : (words : List Bytes) (left : Option Bytes) (s : Status) (text : Bytes) → IsTextRead words left s text → ReadsManifest words
+reads-of words left s text (inl held) = inl held.0
+reads-of words left s text (inr held) = inr held.0
+
+-- the words and a source that tells have one status and one text, where the source doesn't fail
+one-read : (words : List Bytes) (left : Option Bytes) (s t : Status) (a b : Bytes) → IsSome left → (s ≡ ReadFault → ⊥) → (t ≡ ReadFault → ⊥)
+    → IsTextRead words left s a → IsTextRead words left t b → (t ≡ s) × (b ≡ a)
+one-read words left s t a b tells no_fault no_fault' (inl held) (inl held') =
+    whole-text IsTextOf one-text left t s b a tells (read-whole IsTextOf left t b no_fault' held'.1) (read-whole IsTextOf left s a no_fault held.1)
+one-read words left s t a b tells no_fault no_fault' (inr held) (inr held') =
+    whole-text IsVerdefOf one-verdef left t s b a tells (read-whole IsVerdefOf left t b no_fault' held'.1) (read-whole IsVerdefOf left s a no_fault held.1)
+one-read words left s t a b tells no_fault no_fault' (inl held) (inr held') = absurd (link-not_verdef words held.0 held'.0)
+one-read words left s t a b tells no_fault no_fault' (inr held) (inl held') = absurd (link-not_verdef words held'.0 held.0)
+
+due-read : (words : List Bytes) (left : Option Bytes) (s t : Status) (a b : Bytes) → IsDue words left s a → (t ≡ ReadFault → ⊥) → IsTextRead words left t b → (t ≡ s) × (b ≡ a)
+due-read words left Linked t a b (inl due) no_fault held = one-read words left Linked t a b due.0 (λ e. cc) no_fault due.1 held
+due-read words left Linked t a b (inr bulk) no_fault held = absurd (reads-not_bulk words bulk.0 (reads-of words left t b held) bulk.1)
+due-read words left Refused t a b due no_fault held = one-read words left Refused t a b due.0 (λ e. cc) no_fault due.1 held
+due-read words left Manifest t a b due no_fault held = one-read words left Manifest t a b due.0 (λ e. cc) no_fault due.1 held
+due-read words left Usage t a b due no_fault held = absurd (reads-is_command words (reads-of words left t b held) due.0)
+due-read words left ReadFault t a b due no_fault held = absurd due
+due-read words left WriteFault t a b due no_fault held = absurd due
+due-read words left Memory t a b due no_fault held = absurd due
 
 due-bulk : (words : List Bytes) (left : Option Bytes) (s : Status) (a b : Bytes) → IsDue words left s a → IsSummaryFor words b → (Linked ≡ s) × (b ≡ a)
-due-bulk words left Linked a b (inl due) held = absurd (link-not_bulk words held.0 due.1 held.1)
+due-bulk words left Linked a b (inl due) held = absurd (reads-not_bulk words held.0 (reads-of words left Linked a due.1) held.1)
 due-bulk words left Linked a b (inr bulk) held = (refl, summary-one words b a held bulk)
-due-bulk words left Refused a b due held = absurd (link-not_bulk words held.0 due.1.0 held.1)
-due-bulk words left Manifest a b due held = absurd (link-not_bulk words held.0 due.1.0 held.1)
+due-bulk words left Refused a b due held = absurd (reads-not_bulk words held.0 (reads-of words left Refused a due.1) held.1)
+due-bulk words left Manifest a b due held = absurd (reads-not_bulk words held.0 (reads-of words left Manifest a due.1) held.1)
 due-bulk words left Usage a b due held = absurd (bulk-is_command words held.0 held.1 due.0)
 due-bulk words left ReadFault a b due held = absurd due
 due-bulk words left WriteFault a b due held = absurd due
@@ -136,10 +178,10 @@ due-bulk words left Memory a b due held = absurd due
 
 due-usage : (words : List Bytes) (left : Option Bytes) (s : Status) (a b : Bytes) → IsDue words left s a → IsTextFor words left Usage b → (Usage ≡ s) × (b ≡ a)
 due-usage words left Usage a b due held = (refl, held.1 ∙ sym due.1)
-due-usage words left Linked a b (inl due) held = absurd (link-is_command words due.1 held.0)
+due-usage words left Linked a b (inl due) held = absurd (reads-is_command words (reads-of words left Linked a due.1) held.0)
 due-usage words left Linked a b (inr bulk) held = absurd (bulk-is_command words bulk.0 bulk.1 held.0)
-due-usage words left Refused a b due held = absurd (link-is_command words due.1.0 held.0)
-due-usage words left Manifest a b due held = absurd (link-is_command words due.1.0 held.0)
+due-usage words left Refused a b due held = absurd (reads-is_command words (reads-of words left Refused a due.1) held.0)
+due-usage words left Manifest a b due held = absurd (reads-is_command words (reads-of words left Manifest a due.1) held.0)
 due-usage words left ReadFault a b due held = absurd due
 due-usage words left WriteFault a b due held = absurd due
 due-usage words left Memory a b due held = absurd due
@@ -147,10 +189,10 @@ due-usage words left Memory a b due held = absurd due
 -- where no fault comes between, what is due or want of memory is left
 pub due-or_memory : (words : List Bytes) (left : Option Bytes) (s t : Status) (a b : Bytes) → IsDue words left s a → (t ≡ ReadFault → ⊥)
     → IsTextFor words left t b → ((t ≡ s) × (b ≡ a)) ⊎ (t ≡ Memory)
-due-or_memory words left s Linked a b due no_fault (inl held) = inl (due-whole words left s Linked a b due held.0 held.1)
+due-or_memory words left s Linked a b due no_fault (inl held) = inl (due-read words left s Linked a b due no_fault held)
 due-or_memory words left s Linked a b due no_fault (inr bulk) = inl (due-bulk words left s a b due bulk)
-due-or_memory words left s Refused a b due no_fault held = inl (due-whole words left s Refused a b due held.0 held.1)
-due-or_memory words left s Manifest a b due no_fault held = inl (due-whole words left s Manifest a b due held.0 held.1)
+due-or_memory words left s Refused a b due no_fault held = inl (due-read words left s Refused a b due no_fault held)
+due-or_memory words left s Manifest a b due no_fault held = inl (due-read words left s Manifest a b due no_fault held)
 due-or_memory words left s Usage a b due no_fault held = inl (due-usage words left s a b due held)
 due-or_memory words left s ReadFault a b due no_fault held = absurd (no_fault refl)
 due-or_memory words left s WriteFault a b due no_fault held = absurd held

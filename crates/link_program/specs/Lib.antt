@@ -1,3 +1,5 @@
 pub mod Arguments
+pub mod Described
 pub mod Grammar
+pub mod Verdef
 pub mod Outcome

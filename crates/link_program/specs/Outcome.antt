@@ -1,29 +1,29 @@
 -- What a command writes, by how it ends.
 use Rattle.std.specs.Prelude.{◌≡◌, ◌≢◌, ◌⊎◌, ℕ, List, [], ◌∷◌, ◌++◌, map, Option, IsSome, IfSome, Ok, Err, codes}
-use Rattle.std.specs.List.{flat_map}
 use Rattle.link_manifest_bulk.specs.Bulk.{bulk_objects}
 use Rattle.link_manifest_bulk.specs.World.{bulk_world}
-use Rattle.link_core.specs.Given.{given_in_batches}
 use Rattle.link_rules.specs.Places.{Bytes}
-use Rattle.link_input.specs.InputFiles.{batch_of}
 use Rattle.link_input.specs.ObjectFile.{ObjectFile}
 use Rattle.link_rules.specs.Report.{report_text}
-use Rattle.link_rules.specs.World.{Given, World, world_of}
-use Rattle.link_rules.specs.Rules.{PlatformRules, elf_like, mach_like}
+use Rattle.link_rules.specs.World.{World}
 use Rattle.link_rules.specs.Linked.{Linked as Answer}
 use Rattle.link_rules.specs.Answer.{IsLinked, IsReport, IsRefusalText}
 use Rattle.link_manifest.specs.declared.fault.ManifestFault.{ManifestFault}
 use Rattle.link_manifest.specs.declared.manifest.Manifest.{Manifest as Described}
-use Rattle.link_manifest.specs.declared.manifest.Manifest.TheVariants.{Elf, Mach}
 use Rattle.link_manifest.specs.FaultText.{fault_text}
 use Rattle.link_manifest.specs.Manifest.{manifest_of}
 use Rattle.link_report.specs.Summary.{summary_text}
 use Rattle.link_program_streams.specs.Streams.{Takes, TakesPart}
+use Rattle.link_program.specs.declared.run.Reading.{Reading}
+use Rattle.link_program.specs.declared.run.Reading.TheVariants as asked
 use Rattle.link_program.specs.declared.run.Told.{Told}
 use Rattle.link_program.specs.declared.run.Told.TheVariants.{Report, Summary}
 use Rattle.link_program.specs.declared.status.Status.{Status}
 use Rattle.link_program.specs.declared.status.Status.TheVariants.{Linked, Refused, Usage, Manifest, ReadFault, WriteFault, Memory}
-use Rattle.link_program.specs.Grammar.{IsBulk, IsLink, IsNoCommand}
+use Rattle.link_program.specs.Described.{error_line, world_of_manifest}
+use Rattle.link_program.specs.declared.command.Command.TheVariants.{Link, Verdef}
+use Rattle.link_program.specs.Grammar.{IsBulk, IsInRange, IsLink, IsNoCommand, IsVerdef}
+use Rattle.link_program.specs.Verdef.{IsVerdefOf}
 
 -- the number that the program ends with
 abbrev pub status_number : Status → ℕ
@@ -34,28 +34,6 @@ status_number Manifest = 3
 status_number ReadFault = 4
 status_number WriteFault = 5
 status_number Memory = 6
-
--- the line that tells an error
-abbrev pub error_line : Bytes → Bytes
-error_line what = codes "error: " ++ what ++ codes "\n"
-
--- what a manifest gives, whatever its platform: its batches, with options and texts
-abbrev pub given_of : Described → Given
-given_of (Elf world) = given_in_batches (batch_of world.inputs) (map batch_of world.later) world.options world.scripts
-given_of (Mach world) = given_in_batches (batch_of world.inputs) (map batch_of world.later) world.options world.scripts
-
--- the objects that are given, batch after batch
-abbrev pub objects_given : Given → List ObjectFile
-objects_given given = flat_map (λ b. b.objects) (given.first ∷ given.later)
-
--- the rules of its platform
-abbrev pub platform_of : Described → PlatformRules
-platform_of (Elf world) = elf_like
-platform_of (Mach world) = mach_like
-
--- what a manifest describes, as a world; each name is shown as it is
-abbrev pub world_of_manifest : Described → World
-world_of_manifest m = world_of (platform_of m) (λ name. name) (given_of m)
 
 -- the text of a link of what these bytes describe, by the status
 abbrev pub IsTextOf : Bytes → Status → Bytes → Type 0
@@ -92,33 +70,47 @@ IsSummary members text = (linked : Answer) × IsLinked (bulk_world members) link
 abbrev pub IsSummaryFor : List Bytes → Bytes → Type 0
 IsSummaryFor words text = (members : ℕ) × IsBulk words members × IsSummary members text
 
--- the same, for some bytes; where the source tells, they are all that it had left
-abbrev pub IsWholeText : Option Bytes → Status → Bytes → Type 0
-IsWholeText left status text = (bytes : Bytes) × IfSome left (λ all. all ≡ bytes) × IsTextOf bytes status text
+-- what is said of some bytes; where the source tells, they are all that it had left
+abbrev pub IsWholeText : (Bytes → Status → Bytes → Type 0) → Option Bytes → Status → Bytes → Type 0
+IsWholeText IsOf left status text = (bytes : Bytes) × IfSome left (λ all. all ≡ bytes) × IsOf bytes status text
 
--- the text of a link of what a source has left, by the status
-abbrev pub IsLinkText : Option Bytes → Status → Bytes → Type 0
-IsLinkText left Linked text = IsWholeText left Linked text
-IsLinkText left Refused text = IsWholeText left Refused text
-IsLinkText left Manifest text = IsWholeText left Manifest text
-IsLinkText left ReadFault text = text ≡ error_line (codes "read fault")
-IsLinkText left Usage text = ⊥
-IsLinkText left WriteFault text = ⊥
-IsLinkText left Memory text = ⊥
+-- the text of a command that reads what a source has left, by the status
+abbrev pub IsReadText : (Bytes → Status → Bytes → Type 0) → Option Bytes → Status → Bytes → Type 0
+IsReadText IsOf left Linked text = IsWholeText IsOf left Linked text
+IsReadText IsOf left Refused text = IsWholeText IsOf left Refused text
+IsReadText IsOf left Manifest text = IsWholeText IsOf left Manifest text
+IsReadText IsOf left ReadFault text = text ≡ error_line (codes "read fault")
+IsReadText IsOf left Usage text = ⊥
+IsReadText IsOf left WriteFault text = ⊥
+IsReadText IsOf left Memory text = ⊥
+
+-- the text that is asked for, of bytes that are read
+abbrev pub text_read : Reading → Bytes → Status → Bytes → Type 0
+text_read (asked.Link workers) = IsTextOf
+text_read asked.Verdef = IsVerdefOf
+
+-- its number is in its range
+abbrev pub IsReadingInRange : Reading → Type 0
+IsReadingInRange (asked.Link workers) = IsInRange (Link workers)
+IsReadingInRange asked.Verdef = IsInRange Verdef
+
+-- the text of a link, or of version definitions, where the words ask for that
+abbrev pub IsTextRead : List Bytes → Option Bytes → Status → Bytes → Type 0
+IsTextRead words left status text = (IsLink words × IsReadText IsTextOf left status text) ⊎ (IsVerdef words × IsReadText IsVerdefOf left status text)
 
 -- the text for these words and what the source has left, by the status
 abbrev pub IsTextFor : List Bytes → Option Bytes → Status → Bytes → Type 0
-IsTextFor words left Linked text = (IsLink words × IsLinkText left Linked text) ⊎ IsSummaryFor words text
-IsTextFor words left Refused text = IsLink words × IsLinkText left Refused text
-IsTextFor words left Manifest text = IsLink words × IsLinkText left Manifest text
-IsTextFor words left ReadFault text = IsLink words × IsLinkText left ReadFault text
+IsTextFor words left Linked text = IsTextRead words left Linked text ⊎ IsSummaryFor words text
+IsTextFor words left Refused text = IsTextRead words left Refused text
+IsTextFor words left Manifest text = IsTextRead words left Manifest text
+IsTextFor words left ReadFault text = IsTextRead words left ReadFault text
 IsTextFor words left Usage text = IsNoCommand words × (text ≡ error_line (codes "usage"))
 IsTextFor words left WriteFault text = ⊥
 IsTextFor words left Memory text = text ≡ []
 
 -- the status and the text that are due, where no fault comes between: by the words, and by what a source that tells has left
 abbrev pub IsDue : List Bytes → Option Bytes → Status → Bytes → Type 0
-IsDue words left Linked text = (IsSome left × IsLink words × IsLinkText left Linked text) ⊎ IsSummaryFor words text
+IsDue words left Linked text = (IsSome left × IsTextRead words left Linked text) ⊎ IsSummaryFor words text
 IsDue words left Refused text = IsSome left × IsTextFor words left Refused text
 IsDue words left Manifest text = IsSome left × IsTextFor words left Manifest text
 IsDue words left Usage text = IsTextFor words left Usage text

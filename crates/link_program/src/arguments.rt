@@ -6,7 +6,7 @@ ghost use Rattle.std.specs.Vec.Iter.{into_iter_items};
 ghost use Rattle.link_rules.specs.Places.{Bytes};
 ghost use Rattle.link_program_streams.specs.Streams.{IsAtEnd, IsCalledAtMost, GivesAtMost, Takes, Rose};
 ghost use Rattle.link_program.specs.Arguments.{words_of_arguments};
-ghost use Rattle.link_program.specs.Grammar.{IsLink, ReadsNothing};
+ghost use Rattle.link_program.specs.Grammar.{ReadsManifest, ReadsNothing};
 ghost use Rattle.link_program.specs.Outcome.{IsCutShort, IsDue, IsOfWholeSource, IsWritten, ReadsAll};
 
 use crate::run::run;
@@ -53,8 +53,8 @@ pub fn run_with_arguments<R: Threads + Sync, S: Source, K: Sink>(
 ) -> Status
     ensures written { IsWritten (words_of_arguments args) (S.left source.old) result (K.taken sink.old) (K.taken sink.new) }
     ensures part { IsCutShort (words_of_arguments args) (S.left source.old) result (λ status. (status ≡ Status.ReadFault → Rose (S.faults source.old) (S.faults source.new))
-        × (IsLink (words_of_arguments args) → ReadsAll status → IsAtEnd (S.left source.new))) (K.taken sink.old) (K.taken sink.new) }
-    ensures nothing_left { IsLink (words_of_arguments args) → ReadsAll result → IsAtEnd (S.left source.new) }
+        × (ReadsManifest (words_of_arguments args) → ReadsAll status → IsAtEnd (S.left source.new))) (K.taken sink.old) (K.taken sink.new) }
+    ensures nothing_left { ReadsManifest (words_of_arguments args) → ReadsAll result → IsAtEnd (S.left source.new) }
     ensures nothing_read { ReadsNothing (words_of_arguments args) → S.left source.new ≡ S.left source.old }
     ensures read_no_further { GivesAtMost (S.left source.old) (S.left source.new) (2 ^ 28 + 1) }
     ensures turns { IsCalledAtMost (S.calls source.old) (S.calls source.new) (2 ^ 28 + 1) }

@@ -16,6 +16,8 @@ pub enum Command {
     Link { workers: usize },
     /// `bulk N W`: a made-up world of so many archive members is linked, by so many workers.
     Bulk { members: usize, workers: usize },
+    /// `verdef`: the version definitions that the manifest's version script makes are written.
+    Verdef,
 }
 
 /// The command that these words write.
@@ -24,6 +26,7 @@ pub fn command_of(words: &[Word]) -> Option<Command>
     ensures none { IfNone result (IsNoCommand words.now) }
 {
     match words {
+        [name] if name.as_str() == "verdef" => Some(Command::Verdef),
         [name, workers] if name.as_str() == "link" => {
             let workers = number_of(workers, MAX_WORKERS)?;
             Some(Command::Link { workers })

@@ -1,14 +1,17 @@
 //! Links the objects of a manifest: `link W` reads it from standard input, and writes to standard
-//! output which objects are loaded and what each symbol means. `bulk N W` links a made-up world, and
-//! sums up what that gives.
+//! output which objects are loaded and what each symbol means. `verdef` writes the version definitions
+//! that the manifest's version script makes. `bulk N W` links a made-up world, and sums up what that
+//! gives.
 #![tactic(auto)]
 
+mod answer;
 mod arguments;
 mod command;
 mod run;
 mod status;
 #[cfg(test)]
 mod tests;
+mod verdef;
 mod word;
 
 use arguments::run_with_arguments;

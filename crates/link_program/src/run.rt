@@ -1,6 +1,6 @@
 //! The program, over any source and sink.
 
-ghost use Rattle.std.specs.Prelude.{◌≡◌, ◌≢◌, ◌≤◌, ◌⊎◌, ◌+◌, ◌^◌, ◌++◌, ◌∷◌, codes, IfOk, length, map};
+ghost use Rattle.std.specs.Prelude.{◌≡◌, ◌≢◌, ◌≤◌, ◌⊎◌, ◌+◌, ◌^◌, ◌∷◌, IfOk, length, map};
 ghost use Rattle.link_core_answer.specs.Parts.{answer_of};
 ghost use Rattle.link_core_answer.specs.Seen as answer;
 ghost use Rattle.link_core.specs.Given.{given_in_batches};
@@ -8,17 +8,17 @@ ghost use Rattle.link_db_files.specs.Inputs.{objects_in};
 ghost use Rattle.link_input.specs.InputFiles.{batch_of};
 ghost use Rattle.link_db_texts.specs.Holds.{platform_of};
 ghost use Rattle.link_manifest.specs.Checked.{HasFewBatches, HasGroupSize, IsGroupSize};
-ghost use Rattle.link_manifest.specs.FaultText.{fault_text};
-ghost use Rattle.link_rules.specs.declared.refusal.LinkError.TheVariants.{Memory};
 ghost use Rattle.link_rules.specs.Places.{Bytes};
-ghost use Rattle.link_rules.specs.Report.{refusal_text};
 ghost use Rattle.link_rules.specs.World.{world_of};
 ghost use Rattle.link_program_streams.specs.Streams.{IsAtEnd, IsCalledAtMost, GivesAtMost, Takes, Rose};
-ghost use Rattle.link_program.specs.Grammar.{IsInRange, IsLink, ReadsNothing};
-ghost use Rattle.link_program.specs.Outcome.{error_line, IsCutShort, IsDue, IsLinkText, IsOfWholeSource, IsSummary, IsTextFor, IsTextOf, IsWorldText, IsWritten, ReadsAll, given_of, objects_given, told_text, world_of_manifest};
+ghost use Rattle.link_program.specs.Grammar.{IsInRange, ReadsManifest, ReadsNothing};
+ghost use Rattle.link_program.specs.Described.{given_of, objects_given, world_of_manifest};
+ghost use Rattle.link_program.specs.Outcome.{IsCutShort, IsDue, IsOfWholeSource, IsReadText, IsReadingInRange, IsSummary, IsTextFor, IsWorldText, IsWritten, ReadsAll, text_read, told_text};
 
+use crate::answer::{Answer, error_answer, fault_answer, refusal_answer};
 use crate::command::{Command, command_of};
 use crate::status::Status;
+use crate::verdef::verdef_of_manifest;
 use crate::word::Word;
 use link_claim::OpenGate;
 use link_core::link_batches;
@@ -30,11 +30,17 @@ use link_manifest::{
 use link_manifest_bulk::bulk_manifest;
 use link_names::Seq;
 use link_program_streams::{ReadAllError, Sink, Source, read_all, write_all};
-use link_report::{refusal_text, report_text, summary_text};
-use link_rules::LinkError;
+use link_report::{report_text, summary_text};
 use link_script::Plain;
 use std::alloc::{AllocError, Global};
 use std::thread::Threads;
+
+/// What is asked of a manifest that is read.
+#[derive(Clone, Copy, Debug, PartialEq, Eq)]
+pub enum Reading {
+    Link { workers: usize },
+    Verdef,
+}
 
 /// How much is told of a link.
 #[derive(Clone, Copy, Debug, PartialEq, Eq)]
@@ -44,16 +50,10 @@ pub enum Told {
     Summary { members: usize },
 }
 
-/// What is to be written, and how the command ends once it is written.
-#[derive(Drop)]
-struct Answer {
-    status: Status,
-    text: Vec<u8>,
-}
-
 /// Runs the command that the words write, and writes its answer to the sink. `link` reads what the
-/// source has left as a manifest, and reports what a link of it gives; `bulk` reads nothing, and
-/// sums up what a link of a made-up world gives.
+/// source has left as a manifest, and reports what a link of it gives; `verdef` reads it too, and
+/// writes the version definitions that its version script makes; `bulk` reads nothing, and sums up
+/// what a link of a made-up world gives.
 ///
 /// For every manifest and every number of workers the report that is written is exactly the one
 /// that the rules of a link give, and a link is refused exactly with the first cause that the
@@ -72,9 +72,9 @@ pub fn run<R: Threads + Sync, S: Source, K: Sink>(
     // What is written, by the status.
     ensures written { IsWritten words.now (S.left source.old) result (K.taken sink.old) (K.taken sink.new) }
     ensures part { IsCutShort words.now (S.left source.old) result (λ status. (status ≡ Status.ReadFault → Rose (S.faults source.old) (S.faults source.new))
-        × (IsLink words.now → ReadsAll status → IsAtEnd (S.left source.new))) (K.taken sink.old) (K.taken sink.new) }
+        × (ReadsManifest words.now → ReadsAll status → IsAtEnd (S.left source.new))) (K.taken sink.old) (K.taken sink.new) }
 
-    ensures nothing_left { IsLink words.now → ReadsAll result → IsAtEnd (S.left source.new) }
+    ensures nothing_left { ReadsManifest words.now → ReadsAll result → IsAtEnd (S.left source.new) }
     ensures nothing_read { ReadsNothing words.now → S.left source.new ≡ S.left source.old }
     ensures read_no_further { GivesAtMost (S.left source.old) (S.left source.new) (2 ^ 28 + 1) }
     ensures turns { IsCalledAtMost (S.calls source.old) (S.calls source.new) (2 ^ 28 + 1) }
@@ -108,7 +108,7 @@ fn answer_to<R: Threads + Sync, S: Source>(
     source: &mut S,
 ) -> Result<Answer, AllocError>
     ensures text { IfOk result (λ a. IsTextFor words.now (S.left source.old) a.status a.text.items) }
-    ensures nothing_left { IfOk result (λ a. IsLink words.now → ReadsAll a.status → IsAtEnd (S.left source.new)) }
+    ensures nothing_left { IfOk result (λ a. ReadsManifest words.now → ReadsAll a.status → IsAtEnd (S.left source.new)) }
     ensures nothing_read { ReadsNothing words.now → S.left source.new ≡ S.left source.old }
     ensures read_no_further { GivesAtMost (S.left source.old) (S.left source.new) (2 ^ 28 + 1) }
     ensures turns { IsCalledAtMost (S.calls source.old) (S.calls source.new) (2 ^ 28 + 1) }
@@ -117,21 +117,24 @@ fn answer_to<R: Threads + Sync, S: Source>(
     ensures answered { IfOk result (λ a. a.status ≢ Status.Memory) }
 {
     match command_of(words) {
-        Some(Command::Link { workers }) => answer_to_link(rt, alloc, workers, source),
+        Some(Command::Link { workers }) => {
+            answer_to_source(rt, alloc, Reading::Link { workers }, source)
+        }
         Some(Command::Bulk { members, workers }) => answer_to_bulk(rt, alloc, members, workers),
+        Some(Command::Verdef) => answer_to_source(rt, alloc, Reading::Verdef, source),
         None => error_answer(alloc, Status::Usage, b"usage"),
     }
 }
 
-/// The answer to a link of what a source has left.
-fn answer_to_link<R: Threads + Sync, S: Source>(
+/// The answer of a command that reads what a source has left.
+fn answer_to_source<R: Threads + Sync, S: Source>(
     rt: &R,
     alloc: Global,
-    workers: usize,
+    reading: Reading,
     source: &mut S,
 ) -> Result<Answer, AllocError>
-    requires in_range { IsInRange (Command.Link workers) }
-    ensures text { IfOk result (λ a. IsLinkText (S.left source.old) a.status a.text.items) }
+    requires in_range { IsReadingInRange reading }
+    ensures text { IfOk result (λ a. IsReadText (text_read reading) (S.left source.old) a.status a.text.items) }
     ensures nothing_left { IfOk result (λ a. ReadsAll a.status → IsAtEnd (S.left source.new)) }
     ensures read_no_further { GivesAtMost (S.left source.old) (S.left source.new) (2 ^ 28 + 1) }
     ensures turns { IsCalledAtMost (S.calls source.old) (S.calls source.new) (2 ^ 28 + 1) }
@@ -139,7 +142,7 @@ fn answer_to_link<R: Threads + Sync, S: Source>(
     ensures read_fault { IfOk result (λ a. a.status ≡ Status.ReadFault → Rose (S.faults source.old) (S.faults source.new)) }
 {
     match read_all(alloc, source, MAX_BYTES) {
-        Ok(bytes) => answer_to_bytes(rt, alloc, workers, &bytes),
+        Ok(bytes) => answer_to_bytes(rt, alloc, reading, &bytes),
         Err(ReadAllError::TooLong) => {
             let fault = ManifestFault {
                 path: Seq::new(alloc),
@@ -152,18 +155,23 @@ fn answer_to_link<R: Threads + Sync, S: Source>(
     }
 }
 
-/// The answer to a link of what these bytes describe.
+/// The answer of such a command to what these bytes describe.
 fn answer_to_bytes<R: Threads + Sync>(
     rt: &R,
     alloc: Global,
-    workers: usize,
+    reading: Reading,
     bytes: &[u8],
 ) -> Result<Answer, AllocError>
-    requires in_range { IsInRange (Command.Link workers) }
-    ensures { IfOk result (λ a. IsTextOf bytes.now a.status a.text.items) }
+    requires in_range { IsReadingInRange reading }
+    ensures { IfOk result (λ a. text_read reading bytes.now a.status a.text.items) }
 {
     match manifest_leaking_tree(alloc, bytes) {
-        Ok(manifest) => answer_to_manifest(rt, alloc, workers, Told::Report, manifest),
+        Ok(manifest) => match reading {
+            Reading::Link { workers } => {
+                answer_to_manifest(rt, alloc, workers, Told::Report, manifest)
+            }
+            Reading::Verdef => verdef_of_manifest(alloc, manifest),
+        },
         Err(ManifestError::At(fault)) => fault_answer(alloc, &fault),
         Err(ManifestError::Memory) => Err(AllocError),
     }
@@ -261,21 +269,6 @@ fn linked_answer<P: Platform>(
     })
 }
 
-/// The answer to a link that is refused; none where memory ran out.
-fn refusal_answer(alloc: Global, error: LinkError) -> Result<Answer, AllocError>
-    ensures cause { IfOk result (λ a. error ≢ Memory) }
-    ensures status { IfOk result (λ a. a.status ≡ Status.Refused) }
-    ensures text { IfOk result (λ a. a.text.items ≡ error_line (refusal_text error)) }
-{
-    match error {
-        LinkError::Memory => Err(AllocError),
-        _ => {
-            let cause = refusal_text(alloc, &error)?;
-            error_answer(alloc, Status::Refused, &cause)
-        }
-    }
-}
-
 /// What is told of a link.
 fn text_of<P: Platform>(
     alloc: Global,
@@ -289,24 +282,4 @@ fn text_of<P: Platform>(
         Told::Report => report_text(alloc, linked),
         Told::Summary { members } => summary_text(alloc, members, linked),
     }
-}
-
-/// The answer to bytes that are no manifest.
-fn fault_answer(alloc: Global, fault: &ManifestFault) -> Result<Answer, AllocError>
-    ensures status { IfOk result (λ a. a.status ≡ Status.Manifest) }
-    ensures text { IfOk result (λ a. a.text.items ≡ error_line (codes "manifest: " ++ fault_text fault.now)) }
-{
-    let what = format!(in alloc; "manifest: {fault}")?;
-    error_answer(alloc, Status::Manifest, what.as_bytes())
-}
-
-/// The answer of a line that tells an error.
-fn error_answer(alloc: Global, status: Status, what: &[u8]) -> Result<Answer, AllocError>
-    ensures status { IfOk result (λ a. a.status ≡ status) }
-    ensures text { IfOk result (λ a. a.text.items ≡ error_line what.now) }
-{
-    let mut text = Vec::from_slice(alloc, b"error: ")?;
-    text.extend_from_slice(what)?;
-    text.extend_from_slice(b"\n")?;
-    Ok(Answer { status, text })
 }

@@ -9,9 +9,9 @@ use std::process::ExitCode;
 /// How a command ended.
 #[derive(Clone, Copy, Debug, PartialEq, Eq)]
 pub enum Status {
-    /// The report is written.
+    /// The report, the summary or the version definitions are written.
     Linked,
-    /// The link is refused, and its cause is told.
+    /// The link or the version definitions are refused, and the cause is told.
     Refused,
     /// The words are no command.
     Usage,

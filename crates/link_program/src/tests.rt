@@ -48,6 +48,20 @@ symbol 1 <unnamed> -> 0 [ABSOLUTE | NON_INTERPOSABLE]
         Status::Manifest,
         "error: manifest: not JSON\n",
     ),
+    (
+        "verdef",
+        r#"{"soname":"l","version_script":"V { a };","script_profile":2}"#,
+        Status::Linked,
+        "records 01000100010001006c000000140000001c000000010000000000000001000000020001005600000014000000000000000300000000000000
+strings 006c005600
+",
+    ),
+    (
+        "verdef",
+        r#"{"version_script":"V { a };"}"#,
+        Status::Manifest,
+        "error: manifest: soname: missing\n",
+    ),
     ("", ARCHIVE, Status::Usage, "error: usage\n"),
     ("link \u{661}", ARCHIVE, Status::Usage, "error: usage\n"),
     (

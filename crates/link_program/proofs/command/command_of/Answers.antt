@@ -1,13 +1,19 @@
 use Rattle.std.proofs.Common.{◌≡◌, length, codes, arith, rules}
-use Rattle.link_program.proofs.Numerals.{three-words, two-words}
+use Rattle.link_program.proofs.Numerals.{one-word, three-words, two-words}
 use Rattle.link_program.proofs.command.command_of.Goals as goal
+
+pub returns-in-len1-clause-command : goal.returns-in-len1-clause-command
+returns-in-len1-clause-command c =
+    let one : length c.args.words.now ≡ 1 = omega (arith, c.in-len1.len_at_least, c.in-len1.len_below) in
+    let name : c.name-item.result ≡ codes "verdef" = search rules in
+    (one-word c.args.words.now c.name-item.result _ one c.name-item.is name, tt)
 
 pub returns-in_ok-workers-in-len2-clause-command : goal.returns-in_ok-workers-in-len2-clause-command
 returns-in_ok-workers-in-len2-clause-command c =
     let two : length c.args.words.now ≡ 2 = omega (arith, c.in-len2.len_at_least, c.in-len2.len_below) in
-    let name : c.name-item.result ≡ codes "link" = search rules in
+    let name : c.name-item-then-words-lt3.result ≡ codes "link" = search rules in
     let made = c.in_ok-workers-in-len2.ensures in
-    (two-words c.args.words.now c.name-item.result c.workers-item.result _ _ two c.name-item.is c.workers-item.is name made.number, made.in_range)
+    (two-words c.args.words.now c.name-item-then-words-lt3.result c.workers-item.result _ _ two c.name-item-then-words-lt3.is c.workers-item.is name made.number, made.in_range)
 
 pub returns-in_ok-workers-in-len3-clause-command : goal.returns-in_ok-workers-in-len3-clause-command
 returns-in_ok-workers-in-len3-clause-command c =

@@ -1,4 +1,4 @@
-use Rattle.std.proofs.Common.{refl, subst}
+use Rattle.std.proofs.Common.{refl, subst, inl, inr}
 use Rattle.link_program_streams.proofs.Flow.{gives-at_most_nothing}
 use Rattle.link_program.specs.declared.command.Command.{Command}
 use Rattle.link_program.specs.Grammar.{IsCommand}
@@ -7,8 +7,15 @@ use Rattle.link_program.proofs.run.answer_to.Goals as goal
 
 pub returns-in-Some-Link-clause-text : goal.returns-in-Some-Link-clause-text
 returns-in-Some-Link-clause-text g c =
-    ok-into c.answer_to_link.result _ _ (λ a held. words-text c.args.words.now (g.S.Source.left c.args.source.now) a.status a.text.items (c.in-Some-Link.workers, subst (λ (k : Command). IsCommand c.args.words.now k) c.in-Some-Link.field-0-is c.in-Some-Link.ensures.command) held)
-    c.answer_to_link.ensures.text
+    ok-into c.answer_to_source.result _ _ (λ a held. words-text c.args.words.now (g.S.Source.left c.args.source.now) a.status a.text.items
+    (inl ((c.in-Some-Link.workers, subst (λ (k : Command). IsCommand c.args.words.now k) c.in-Some-Link.field-0-is c.in-Some-Link.ensures.command), held)))
+    c.answer_to_source.ensures.text
+
+pub returns-in-Some-Verdef-clause-text : goal.returns-in-Some-Verdef-clause-text
+returns-in-Some-Verdef-clause-text g c =
+    ok-into c.answer_to_source-in-Some-Verdef.result _ _ (λ a held. words-text c.args.words.now (g.S.Source.left c.args.source.now) a.status a.text.items
+    (inr (subst (λ (k : Command). IsCommand c.args.words.now k) c.in-Some-Verdef.field-0-is c.in-Some-Verdef.ensures.command, held)))
+    c.answer_to_source-in-Some-Verdef.ensures.text
 
 pub returns-in-Some-Bulk-clause-text : goal.returns-in-Some-Bulk-clause-text
 returns-in-Some-Bulk-clause-text g c =

@@ -4,7 +4,8 @@ use Rattle.link_manifest_bulk.specs.World.{bulk_world}
 use Rattle.link_input.specs.ObjectFile.{ObjectFile}
 use Rattle.link_manifest.specs.declared.manifest.Manifest.{Manifest as Described}
 use Rattle.link_program.specs.declared.run.Told.TheVariants.{Summary}
-use Rattle.link_program.specs.Outcome.{IsWorldText, given_of, objects_given, told_text, world_of_manifest}
+use Rattle.link_program.specs.Described.{given_of, objects_given, world_of_manifest}
+use Rattle.link_program.specs.Outcome.{IsWorldText, told_text}
 use Rattle.link_program.proofs.OfWorld.{ok-into, summary-of}
 use Rattle.link_program.proofs.run.answer_to_bulk.Goals as goal
 
