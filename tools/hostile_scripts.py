@@ -5,8 +5,8 @@
 
 A script of M megabytes (10 if not given) repeats one part (all of them in turn, or those that are named): blanks,
 comments, names, patterns, versions, blocks and so on. It stands in a manifest as version script and as export list, in
-frames that close it, and that leave it open in each place. A link of one small object reads it. Prints a line for each
-part, with the slowest of its frames. A run that ends by a signal, with a status other than 0 and 1, or after more than
+frames that close it, and that leave it open in each place, in each profile. A link of one small object reads it. Prints
+a line for each part, with the slowest of its frames. A run that ends by a signal, with a status other than 0 and 1, or after more than
 S processor seconds (5 if not given) for 10 megabytes, is told; then the status is 1.
 """
 import argparse
@@ -43,6 +43,8 @@ KINDS = {
     "list": ('{"output":"shared","export_list":"', '",', LISTS),
     "forced": ('{"output":"shared","force_export":["', '"],', {"": "", 'extern "C" {': "};", 'extern "C" { ': ""}),
     "linker script": ('{"output":"shared","scripts":[{"name":"s","version":"', '"}],', {"{": "};", "V {": "};"}),
+    "lenient script": ('{"output":"shared","script_profile":2,"version_script":"', '",', {**BODIES, **NAMED}),
+    "lenient list": ('{"output":"shared","script_profile":2,"export_list":"', '",', LISTS),
     "macho list": ('{"platform":"macho","export_list":"', '",', LINES),
 }
 OBJECT = '"objects":[{"name":"a.o","sections":2,"symbols":[{"name":"a","place":1},{"name":"b","place":"undefined"}]}]}'

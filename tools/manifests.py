@@ -109,7 +109,7 @@ ROOT = record(platform=(word("elf", "macho"), "elf"), output=(word("static", "dy
               files_per_group=(number(1, 256), 256), wrap=(many(raw), []), force_undefined=(many(raw), []), force_export=(many(raw), []),
               defsym=(many(record(name=raw, targets=(many(raw), []))), []), linker_symbols=(many(LINKER_SYMBOL), []),
               custom_sections=(many(raw), []), version_script=(maybe(raw), None), export_list=(maybe(raw), None),
-              batches=(many(record(**FILES)), []), **FILES)
+              batches=(many(record(**FILES)), []), script_profile=(number(1, 2), 1), soname=(maybe(raw), None), **FILES)
 
 NULL_ENTRY = {"name": b"", "place": "undefined", "bind": "local", "vis": "default", "kind": "plain", "size": 0, "version": None,
               "default": True}

@@ -7,7 +7,7 @@ Compiles the sources of `c/` and `cxx/` with the system's compilers (`cc` and `c
 them, and links them in several ways, once by clang where it is there. PROGRAM is one or more words,
 crates/link_program/out/link_program by default. What is compared, `compare.py` says; here it is also said what has to be
 loaded, and what not. Then the small inputs of `linkers.py` are linked, of which docs/LINKERS.md says that linkers answer
-them otherwise.
+them otherwise, and the version definitions of `verdef.py` are written beside those of the linkers that are there.
 Where no compiler or no GNU ld is there, one line says so, and the status is 0. What differs ends with status 1.
 """
 import os
@@ -21,6 +21,7 @@ import tempfile
 # `compare` makes the tool's modules known, so it comes first.
 import compare
 import linkers
+import verdef
 from linker_inputs.faults import Fault, Warnings
 from linker_inputs.main import words_of_compiler
 
@@ -131,7 +132,7 @@ def main():
         build()
         links = LINKS + (CLANG_LINKS if shutil.which("clang") else []) + (STATIC_LINKS if has_static_libraries() else [])
         try:
-            results = [check_link(program, *link) for link in links] + linkers.check(program)
+            results = [check_link(program, *link) for link in links] + linkers.check(program) + verdef.check(program)
         except Fault as fault:
             sys.exit(f"error: {fault}")
         os.chdir("/")

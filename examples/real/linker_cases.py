@@ -15,6 +15,7 @@ class Case:
     asked: list = dataclasses.field(default_factory=list)
     exported: list = dataclasses.field(default_factory=list)
     texts: dict = dataclasses.field(default_factory=dict)
+    lenient: bool = False  # scripts are read in the lenient profile
 
 
 CASES = [
@@ -301,5 +302,40 @@ CASES = [
         "liba.a",
         {"report ld gold mold": "loads ", "lld": "refuses"},
         libraries={"liba.a": ["a"]},
+    ),
+    Case(
+        "no semicolon before the brace, leniently",
+        {"main": "def foo; def bar"},
+        "-shared main.o --version-script=map",
+        {"report mold": "loads main, foo is exported, bar is local", "ld gold lld": "refuses"},
+        exported=["foo", "bar"],
+        texts={"map": "{ global: foo; local: * };\n"},
+        lenient=True,
+    ),
+    Case(
+        "a version without the last semicolon, leniently",
+        {"main": "def foo; def bar"},
+        "-shared main.o --version-script=map",
+        {"report mold": "loads main, foo is exported, bar is exported", "ld gold lld": "refuses"},
+        exported=["foo", "bar"],
+        texts={"map": "V1 { foo } ;\n"},
+        lenient=True,
+    ),
+    Case(
+        "a dynamic list without the last semicolon, leniently",
+        {"main": "def foo"},
+        "-shared main.o --dynamic-list=list",
+        {"report": "loads main, foo is exported", "ld gold lld mold": "refuses"},
+        exported=["foo"],
+        texts={"list": "{ foo };\n"},
+        lenient=True,
+    ),
+    Case(
+        "a brace in an entry",
+        {"main": "def foo; def bar"},
+        "-shared main.o --version-script=map",
+        {"report": "loads main, foo is exported, bar is exported", "ld gold lld mold": "refuses"},
+        exported=["foo", "bar"],
+        texts={"map": "{ foo}bar; };\n"},
     ),
 ]

@@ -113,7 +113,7 @@ def refusal(text):
 
 def report_answer(case, program):
     """What the report says; a name that an executable lacks is what a linker refuses."""
-    written = manifest_of(case.words.split(), Warnings())
+    written = manifest_of(case.words.split(), Warnings(), case.lenient)
     done = subprocess.run([*program, "link", "2"], input=written, capture_output=True)
     text, manifest = done.stdout.decode(), json.loads(written)
     if done.returncode:

@@ -27,6 +27,7 @@ HELP = """wolzhyke: which files a link loads, and which definition each symbol m
 
     ./wolzhyke files [W] -- LINKER WORDS    from object files, archives and shared objects to a report
     ./wolzhyke link [W] < MANIFEST          from a manifest (JSON) to a report
+    ./wolzhyke verdef < MANIFEST            the version definitions that its version script makes
     ./wolzhyke bulk N [W]                   the summary of a made-up link of N archive members, 1 to 100000
     ./wolzhyke prove                        proves the program, and runs the proved one from then on
     ./wolzhyke --help, -h, help             this text
@@ -36,10 +37,10 @@ W is the number of workers, 1 to 256; without it there are as many as processors
 `cc -### ..` prints the words that a compiler gives to it, and `--from-cc cc ..` in their place asks the compiler for
 them. `tools/manifest --help` says more.
 
-The report comes on standard output; a line `error: ..` in its place says why there is none.
+The answer comes on standard output; a line `error: ..` in its place says why there is none.
 
-    0    linked                              5    standard output takes no more
-    1    the link is refused                 6    memory ran out
+    0    answered                            5    standard output takes no more
+    1    the link or the script is refused   6    memory ran out
     2    the words are no command            7    of these files no manifest can be made
     3    standard input is no manifest       125  the program can't be built, or isn't proved
     4    standard input can't be read        130  building was interrupted
@@ -129,6 +130,8 @@ def is_command(words):
     """Whether the program takes the words, or they make a manifest first. So nothing is built for a word that is mistyped."""
     if words[:1] == ["bulk"]:
         return len(words) == 3 and is_count(words[1], MOST_MEMBERS) and is_count(words[2], MOST_WORKERS)
+    if words == ["verdef"]:
+        return True
     return are_files(words) or words[:1] == ["link"] and len(words) == 2 and is_count(words[1], MOST_WORKERS)
 
 

@@ -12,8 +12,8 @@ from .manifest import MOST_BYTES, manifest_pieces
 from .response_files import expanded, joined, split
 from .words import read_words
 
-HELP = """tools/manifest LINKER WORDS
-tools/manifest --from-cc COMPILER WORDS
+HELP = """tools/manifest [--lenient-scripts] LINKER WORDS
+tools/manifest [--lenient-scripts] --from-cc COMPILER WORDS
 
 Reads the files of a link, and writes on standard output the manifest that `link` reads: which symbols each object has.
 
@@ -21,7 +21,7 @@ LINKER WORDS are those of ld: files, -l and -L, --start-group, --whole-archive, 
 -pie, -r, -e, -u, --defsym, --wrap, --version-script, --dynamic-list, --export-dynamic-symbol, --start-lib, -T, @FILE
 and so on. Words that change nothing which a manifest tells are passed over; for those that would, there is a warning.
 With --from-cc, the compiler is asked (by -###) for the words that it would give to its linker; name objects, not
-sources.
+sources. With --lenient-scripts, the last entry in a pair of braces of a version script or an export list needs no `;`.
 
 Read are ELF objects of 64 bits, archives (thin ones too), shared objects and linker scripts.
 Ends with 0, or with 1 and one line `error: FILE: ..` on standard error. Warnings and progress come on standard error
@@ -70,9 +70,10 @@ def told_words_at_length(words, folder):
     return told
 
 
-def manifest_of(words, warnings):
+def manifest_of(words, warnings, lenient_scripts=False):
     """The bytes of the manifest that a linker's words ask for."""
     command = read_words(words, warnings)
+    command.lenient_scripts = lenient_scripts
     inputs = Inputs(command, warnings)
     if not inputs.entries:
         raise Fault("LINKER WORDS", "no object is among them")
@@ -91,9 +92,12 @@ def main(words):
         print(HELP, end="")
         return 0
     try:
+        lenient_scripts = words[:1] == ["--lenient-scripts"]
+        if lenient_scripts:
+            words = words[1:]
         if words[:1] == ["--from-cc"]:
             words = words_of_compiler(words[1:])
-        sys.stdout.buffer.write(manifest_of(words, Warnings()))
+        sys.stdout.buffer.write(manifest_of(words, Warnings(), lenient_scripts))
         sys.stdout.flush()
     except Fault as fault:
         print(f"error: {os.fsencode(str(fault)).decode('utf-8', 'backslashreplace')}", file=sys.stderr)

@@ -88,6 +88,10 @@ def manifest_pieces(command, inputs):
     for key, script in {"version_script": command.version_script, "export_list": command.export_list}.items():
         if script is not None:
             yield f',"{key}":{json_of(script)}'
+    if command.lenient_scripts:
+        yield ',"script_profile":2'
+    if command.soname is not None:
+        yield ',"soname":' + json_of(os.fsencode(command.soname))
     yield ',"objects":['
     for place, entry in enumerate(inputs.entries):
         yield (",\n" if place else "\n") + object_json(entry)

@@ -32,12 +32,13 @@ class Command:
         self.allow_multiple = False
         self.wrap, self.force_undefined, self.force_export = [], [], []
         self.defsym = []  # name, targets
-        self.version_script = self.export_list = None
+        self.version_script = self.export_list = self.soname = None
+        self.lenient_scripts = False  # no word of a linker: the tool's own
 
 
 # Words with a value, perhaps in the next word, that change nothing which a manifest tells.
 SKIPPED_WITH_VALUE = set(
-    """output o m h soname I dynamic-linker rpath rpath-link plugin plugin-opt G f auxiliary F filter Map y trace-symbol
+    """output o m I dynamic-linker rpath rpath-link plugin plugin-opt G f auxiliary F filter Map y trace-symbol
     init fini assert audit depaudit P Y hash-style sort-section Ttext Tdata Tbss Ttext-segment Trodata-segment section-start
     oformat architecture A dependency-file""".split()
 )
@@ -163,6 +164,10 @@ class WordReader:
         """The entry point, where it is a name; an address is none."""
         self.command.entry = "" if value[:1].isdigit() else value
 
+    def set_soname(self, value):
+        """The name by which programs ask for the output; the last one counts."""
+        self.command.soname = value
+
     def require(self, value):
         """A name that has to be defined. A manifest can ask for it, and no more."""
         self.command.force_undefined.append(value)
@@ -212,6 +217,7 @@ VALUED = {
     "u": listing("force_undefined"), "undefined": listing("force_undefined"), "require-defined": WordReader.require,
     "wrap": listing("wrap"), "export-dynamic-symbol": listing("force_export"), "defsym": WordReader.add_redirect,
     "e": WordReader.set_entry, "entry": WordReader.set_entry, "z": WordReader.set_keyword,
+    "soname": WordReader.set_soname, "h": WordReader.set_soname,
     "b": WordReader.set_format, "format": WordReader.set_format,
     "sysroot": lambda reader, value: setattr(reader.command, "system_root", value.rstrip("/")),
     "version-script": lambda reader, value: reader.set_text("version_script", value, "version script"),
