@@ -6,6 +6,13 @@ use Rattle.link_tests_core.proofs.bench.time_loading.Goals as goal
 
 -- nothing is known yet
 pub load_batch-requires : goal.load_batch-requires
-load_batch-requires g c =
-    (search rules, (search rules, (search rules,
-    subst (λ (k : Known). IsReadyFor k (seen c.args.db.now)) (sym c.new-resolver.ensures.known) (record { listed = c.requires.listed; loaded = omega arith; targets = λ k d lt. absurd (omega (arith, lt)) }))))
+load_batch-requires g c = (
+  search rules,
+  (
+    search rules,
+    (
+      search rules,
+      subst (λ (k : Known). IsReadyFor k (seen c.args.db.now)) (sym c.new-resolver.ensures.known) (record { listed = c.requires.listed; loaded = omega arith; targets = λ k d lt. absurd (omega (arith, lt)) }),
+    ),
+  ),
+)

@@ -9,9 +9,16 @@ use Rattle.link_tests_core.proofs.loading.resolve.Goals as goal
 
 -- nothing is known yet
 pub resolve_counted-requires : goal.resolve_counted-requires
-resolve_counted-requires g c =
-    (search rules, (search rules, (search rules,
-    subst (λ (k : Known). IsReadyFor k (seen c.args.db.now)) (sym c.requires.new) (record { listed = c.requires.listed; loaded = omega arith; targets = λ k d lt. absurd (omega (arith, lt)) }))))
+resolve_counted-requires g c = (
+  search rules,
+  (
+    search rules,
+    (
+      search rules,
+      subst (λ (k : Known). IsReadyFor k (seen c.args.db.now)) (sym c.requires.new) (record { listed = c.requires.listed; loaded = omega arith; targets = λ k d lt. absurd (omega (arith, lt)) }),
+    ),
+  ),
+)
 
 -- without symbols of the linker's own the flags are those of the symbols of files
 pub returns-clause-flags : goal.returns-clause-flags
