@@ -7,4 +7,5 @@ pub mod Joining
 pub mod NarrowPass
 pub mod NameLists
 pub mod Tables
+pub mod NameChoices
 pub mod TwoLists

@@ -14,7 +14,7 @@ use Rattle.link_rules.specs.World.{Stage}
 use Rattle.link_resolve_rivals.specs.Lists.{AreLists, plain_lists, versioned_lists}
 
 -- what stands at a place stands below the length
-below-length : {X : Type 0} (xs : List X) (s : ℕ) (x : X) → slice_get xs s ≡ Some x → s < length xs
+pub below-length : {X : Type 0} (xs : List X) (s : ℕ) (x : X) → slice_get xs s ≡ Some x → s < length xs
 below-length [] s x is = absurd (none_some x is)
 below-length (y ∷ ys) zero x is = omega arith
 below-length (y ∷ ys) (suc s) x is = let rest = below-length ys s x is in omega arith
@@ -134,3 +134,12 @@ versioned-lists w = lists-of (versioned_list w) w.symbols (record {
         place-in (λ y. is_version_listed y && bytes_eq y.name x.name && same_version y.version (Some v)) w.symbols s x at
         (ap (λ b. b && bytes_eq x.name x.name && same_version x.version (Some v)) is
         ∙ ap (λ b. b && same_version x.version (Some v)) (same-text x.name) ∙ ap (λ o. same_version o (Some v)) of ∙ same-itself v)
+
+-- each definition in the list of a symbol's name and version can be found by these
+pub version-listed : (w : Stage) (x : Symbol) (t : ℕ) → Contains (versioned_list w x) t → (y : Symbol) × (slice_get w.symbols t ≡ Some y) × (is_version_listed y ≡ true)
+version-listed w x t = by (is_version_listed x) x.version
+  where
+    by : (b : Bool) (version : Option Bytes) → Contains (version_list w b x.name version) t → (y : Symbol) × (slice_get w.symbols t ≡ Some y) × (is_version_listed y ≡ true)
+    by false version within = absurd (nothing_in t within)
+    by true None within = absurd (nothing_in t within)
+    by true (Some v) within = let (y, there) = versioned_in w x.name v t within in (y, there.at, there.listed)

@@ -8,13 +8,12 @@ use Rattle.std.proofs.lemmas.List.Elements.{All-contains_itself, All-head, All-t
 use Rattle.link_rules.specs.Places.{are_several, contains}
 use Rattle.link_rules.specs.Rivals.{clash, settled_entry, stand_in}
 use Rattle.link_rules.specs.Selection.{Selection, is_dynamic}
-use Rattle.link_resolve_rivals.specs.declared.settling.Clash.{Clash}
 use Rattle.link_resolve_rivals.specs.Lists.{AreLists}
 use Rattle.link_resolve_rivals.specs.Settled.{clash_at, clash_of, settled_at, settled_on}
 use Rattle.link_resolve_rivals.proofs.Passes.{contained, done_below, done_on, done-all, done-more, list-shared, undone}
 
 -- what entries stand for by tables that agree on them
-stand-same : (l : Selection) (table old : List ℕ) (xs : List ℕ) → All (λ e. slice_index table e ≡ slice_index old e) xs → map (stand_in l table) xs ≡ map (stand_in l old) xs
+pub stand-same : (l : Selection) (table old : List ℕ) (xs : List ℕ) → All (λ e. slice_index table e ≡ slice_index old e) xs → map (stand_in l table) xs ≡ map (stand_in l old) xs
 stand-same l table old [] all = refl
 stand-same l table old (x ∷ xs) all =
     let agree : slice_index table x ≡ slice_index old x = All-head (λ e. slice_index table e ≡ slice_index old e) x xs all in
@@ -82,22 +81,22 @@ module _ (l : Selection) (listed : ℕ → List ℕ) (n : ℕ) (are : AreLists l
       (λ none. ap (λ own. settled_entry l own (map (stand_in l old) own) (slice_index old s)) none)
 
 -- the numbers below an end begin with the first
-range-next : (i n : ℕ) → i < n → range_with_len i (n - i) ≡ i ∷ range_with_len (i + 1) (n - (i + 1))
+pub range-next : (i n : ℕ) → i < n → range_with_len i (n - i) ≡ i ∷ range_with_len (i + 1) (n - (i + 1))
 range-next i n lt =
     let count : n - i ≡ suc (n - (i + 1)) = omega arith in
     ap (range_with_len i) count
 
--- one clash more, if there is one
-pub clashes-more : (f : ℕ → Option Clash) (told next : List Clash) (i n : ℕ) (one : Option Clash) → i < n → one ≡ f i → next ≡ told ++ option_to_list one
+-- one thing more that is told of a number, if there is one
+pub told-more : {X : Type 0} (f : ℕ → Option X) (told next : List X) (i n : ℕ) (one : Option X) → i < n → one ≡ f i → next ≡ told ++ option_to_list one
     → next ++ filter_map f (range_with_len (i + 1) (n - (i + 1))) ≡ told ++ filter_map f (range_with_len i (n - i))
-clashes-more f told next i n one lt is more =
-    ap (λ cs. cs ++ rest) more ∙ by one
+told-more {X} f told next i n one lt is more =
+    ap (λ xs. xs ++ rest) more ∙ by one
     ∙ ap (λ o. told ++ cons_option o rest) is
     ∙ sym (ap (λ numbers. told ++ filter_map f numbers) (range-next i n lt))
   where
-    rest : List Clash
+    rest : List X
     rest = filter_map f (range_with_len (i + 1) (n - (i + 1)))
 
-    by : (o : Option Clash) → told ++ option_to_list o ++ rest ≡ told ++ cons_option o rest
-    by None = ap (λ cs. cs ++ rest) (append-nil told)
-    by (Some c) = append_assoc told (c ∷ []) rest
+    by : (o : Option X) → told ++ option_to_list o ++ rest ≡ told ++ cons_option o rest
+    by None = ap (λ xs. xs ++ rest) (append-nil told)
+    by (Some x) = append_assoc told (x ∷ []) rest

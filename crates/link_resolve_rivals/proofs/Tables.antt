@@ -37,18 +37,24 @@ not-forced name (in_object n shared e) named = refl
 not-forced name (in_script d) named = refl
 not-forced name (in_stub strength) named = refl
 
--- a listed symbol points to itself at first
-own-reference : (l : Selection) (s : ℕ) (x : Symbol) → IsListedAt l.stage s x → slice_index (reference_table l) s ≡ s
-own-reference l s x listed =
+-- a definition that is not a forced name points to itself at first
+pub own-reference : (l : Selection) (s : ℕ) (x : Symbol) → slice_get l.stage.symbols s ≡ Some x → is_definition x ≡ true → is_forced x.origin ≡ false
+    → slice_index (reference_table l) s ≡ s
+own-reference l s x at defines unforced =
     let zero_add : 0 + s ≡ s = omega arith in
-    let both = both_true (is_definition x) (is_named x.name x.origin) listed.listed in
-    slice_index-each_from (reference_entry l) 0 l.stage.symbols s x listed.at
+    slice_index-each_from (reference_entry l) 0 l.stage.symbols s x at
     ∙ ap (λ n. reference_entry l n x) zero_add
-    ∙ ap (λ b. cond b (unwrap_or (first_definition l.stage x.name) s) (cond (is_definition x) s (unwrap_or (target_of l s) 0))) (not-forced x.name x.origin both.1)
-    ∙ ap (λ b. cond b s (unwrap_or (target_of l s) 0)) both.0
+    ∙ ap (λ b. cond b (unwrap_or (first_definition l.stage x.name) s) (cond (is_definition x) s (unwrap_or (target_of l s) 0))) unforced
+    ∙ ap (λ b. cond b s (unwrap_or (target_of l s) 0)) defines
+
+-- so does a listed symbol
+listed-reference : (l : Selection) (s : ℕ) (x : Symbol) → IsListedAt l.stage s x → slice_index (reference_table l) s ≡ s
+listed-reference l s x listed =
+    let both = both_true (is_definition x) (is_named x.name x.origin) listed.listed in
+    own-reference l s x listed.at both.0 (not-forced x.name x.origin both.1)
 
 -- symbols that point to themselves stand for themselves
-stand-themselves : (l : Selection) (table xs : List ℕ) → All (λ e. slice_index table e ≡ e) xs → map (stand_in l table) xs ≡ xs
+pub stand-themselves : (l : Selection) (table xs : List ℕ) → All (λ e. slice_index table e ≡ e) xs → map (stand_in l table) xs ≡ xs
 stand-themselves l table [] all = refl
 stand-themselves l table (x ∷ xs) all =
     ap (λ t. (if is_dynamic l t then x else t) ∷ map (stand_in l table) xs) (All-head (λ e. slice_index table e ≡ e) x xs all)
@@ -67,7 +73,7 @@ plain-themselves l x = stand-themselves l (reference_table l) (plain_list l.stag
   where
     itself : (e : ℕ) (b : Bool) → Contains (if b then definitions_of l.stage.symbols x.name else []) e → slice_index (reference_table l) e ≡ e
     itself e false within = absurd (nothing_in e within)
-    itself e true within = let it = listed_in l.stage x.name e within in own-reference l e it.0 it.1
+    itself e true within = let it = listed_in l.stage x.name e within in listed-reference l e it.0 it.1
 
 -- the list of the symbol of an id, by what gives each symbol its list
 abbrev lists_by : Selection → (Symbol → List ℕ) → ℕ → List ℕ
@@ -106,8 +112,8 @@ plain-settled l =
 pub versioned-settled : (l : Selection) → settled_table l (versioned_lists l.stage) (plain_table l) ≡ versioned_table l
 versioned-settled l = settled-symbols l (versioned_list l.stage) (plain_entry l (reference_table l))
 
--- a table of symbols has as many entries
-each-length : (f : ℕ → Symbol → ℕ) (n : ℕ) (xs : List Symbol) → length (each_from f n xs) ≡ length xs
+-- a table has as many entries as what it is made of
+pub each-length : {X : Type 0} (f : ℕ → X → ℕ) (n : ℕ) (xs : List X) → length (each_from f n xs) ≡ length xs
 each-length f n [] = refl
 each-length f n (x ∷ xs) = ap suc (each-length f (n + 1) xs)
 

@@ -2,12 +2,14 @@
 //! a trait, and what is known of symbols in columns by their ids, so nothing here knows a database.
 #![tactic(auto)]
 
+mod choosing;
 mod laws;
 mod lists;
 mod narrowing;
 mod settling;
 mod survivors;
 
+pub use choosing::{choices, name_choices};
 pub use laws::{
     clashes_are_the_duplicates, names_make_lists, narrowing_twice_joins_both,
     settling_gives_the_tables,

@@ -124,7 +124,7 @@ fn settle_list(
 }
 
 /// What the symbols of a list stand for.
-fn fill_entries(
+pub(crate) fn fill_entries(
     survivors: &Survivors,
     head: SymbolId,
     later: &[u32],

@@ -1,9 +1,11 @@
 //! What is left of each symbol once it is known which objects are loaded.
 
 ghost use Rattle.std.specs.Prelude.{◌≡◌, length};
+ghost use Rattle.link_rules.specs.Choices.{case_of_strength};
 
 use link_flags::{SymbolPrioritySelector, SymbolStrength};
 use link_ids::SymbolId;
+use link_rules::ChoiceCase;
 
 /// What is known of symbols by their ids once it is known which objects are loaded, with the settings that say which counts.
 #[derive(Clone, Copy)]
@@ -23,11 +25,13 @@ pub struct Survivors<'a> {
 }
 
 impl<'a> Survivors<'a> {
-    ghost use Rattle.std.specs.Prelude.{◌≡◌, ◌<◌, ◌&&◌, ◌==◌, All, IfSome, find, length, not};
+    ghost use Rattle.std.specs.Prelude.{◌≡◌, ◌<◌, ◌&&◌, ◌==◌, All, IfSome, find, length, not, option_map};
+    ghost use Rattle.std.specs.Option.{option_map_or};
     ghost use Rattle.link_flags.specs.Pick.{is_strong, pick};
     ghost use Rattle.link_flags.specs.Selector.{after};
+    ghost use Rattle.link_rules.specs.Choices.{choice_case};
     ghost use Rattle.link_rules.specs.Places.{first_of};
-    ghost use Rattle.link_rules.specs.Rivals.{choice, clash, is_held, is_surviving, static_candidates};
+    ghost use Rattle.link_rules.specs.Rivals.{choice, clash, is_held, is_surviving, preferred_entry, static_candidates};
     ghost use Rattle.link_rules.specs.Selection.{Selection, is_dynamic, surviving_strength};
     ghost use Rattle.link_resolve_rivals.specs.Survivors.{Tells, strong_entries};
 
@@ -121,6 +125,26 @@ impl<'a> Survivors<'a> {
         None
     }
 
+    /// The entry of a list that is preferred to its head, with the first case that holds: the pick of those that no shared file gives, else the
+    /// first of which something is left, else the first that a loaded regular object holds.
+    fn preferred(&self, entries: &[SymbolId]) -> Option<(SymbolId, ChoiceCase)>
+        requires { All (λ e. e < length self.now.strengths.now) entries.now }
+        ensures value { (l : Selection) → Tells self.now l → option_map (λ found. found.0) result ≡ preferred_entry l entries.now }
+        ensures case { (l : Selection) → Tells self.now l → option_map_or (λ found. found.1) result ChoiceCase.First ≡ choice_case l entries.now }
+        ensures inside { IfSome result (λ found. found.0 < length self.now.strengths.now) }
+    {
+        if let Some(id) = self.pick(entries) {
+            return Some((id, case_of(self.strength(id))));
+        }
+        if let Some(id) = self.first_surviving(entries) {
+            return Some((id, ChoiceCase::Surviving));
+        }
+        if let Some(id) = self.first_held(entries) {
+            return Some((id, ChoiceCase::Loaded));
+        }
+        None
+    }
+
     /// The entry of a list that counts: the pick of those that no shared file gives, else the first of which something is left, else the
     /// first that a loaded regular object holds, else the head.
     pub fn choice(&self, entries: &[SymbolId], head: SymbolId) -> SymbolId
@@ -129,13 +153,21 @@ impl<'a> Survivors<'a> {
         ensures value { (l : Selection) → Tells self.now l → result ≡ choice l entries.now head }
         ensures inside { result < length self.now.strengths.now }
     {
-        if let Some(id) = self.pick(entries) {
-            return id;
+        match self.preferred(entries) {
+            Some((id, _)) => id,
+            None => head,
         }
-        if let Some(id) = self.first_surviving(entries) {
-            return id;
+    }
+
+    /// Why that entry counts: the first case that holds.
+    pub fn case(&self, entries: &[SymbolId]) -> ChoiceCase
+        requires { All (λ e. e < length self.now.strengths.now) entries.now }
+        ensures { (l : Selection) → Tells self.now l → result ≡ choice_case l entries.now }
+    {
+        match self.preferred(entries) {
+            Some((_, case)) => case,
+            None => ChoiceCase::First,
         }
-        self.first_held(entries).unwrap_or(head)
     }
 
     /// The first strong entry.
@@ -178,5 +210,17 @@ impl<'a> Survivors<'a> {
         let first = self.first_strong(entries)?;
         let second = self.strong_beside(first, entries)?;
         Some((first, second))
+    }
+}
+
+/// The case of what is picked by how strongly it binds.
+fn case_of(strength: SymbolStrength) -> ChoiceCase
+    ensures { result ≡ case_of_strength strength }
+{
+    match strength {
+        SymbolStrength::Undefined => ChoiceCase::First,
+        SymbolStrength::Weak | SymbolStrength::GnuUnique => ChoiceCase::Weak,
+        SymbolStrength::Strong => ChoiceCase::Strong,
+        SymbolStrength::Common(_) => ChoiceCase::Common,
     }
 }

@@ -1,4 +1,5 @@
-//! That the definition that counts is the one that a plain model names, for all lists of two and three; that lists are settled and narrowed.
+//! That the definition that counts is the one that a plain model names, for all lists of two and three; that lists are settled and narrowed,
+//! and that what counts in them is told.
 
 ghost use Rattle.std.specs.Prelude.{◌≡◌, ◌<◌, ◌≤◌, All, IfOk, length};
 ghost use Rattle.link_flags.specs.FlagWords.{words_of};
@@ -7,7 +8,8 @@ use bitflags::Flags;
 use link_flags::SymbolStrength::{Common, GnuUnique, Strong, Undefined, Weak};
 use link_flags::{PerSymbolFlags, RawFlags, SymbolStrength, ValueFlags, Visibility};
 use link_ids::{SymbolId, SymbolIdRange};
-use link_resolve_rivals::{RivalLists, Survivors, narrow, settle};
+use link_resolve_rivals::{RivalLists, Survivors, choices, name_choices, narrow, settle};
+use link_rules::{ChoiceCase, NameChoice};
 use std::alloc::{AllocError, Global};
 use std::test::Fail;
 
@@ -206,6 +208,111 @@ fn lists_are_settled(rt: HostRuntime) -> Result<(), Fail> {
     let mut table = table();
     let clashes = settle_two_lists(rt.alloc(), &mut table)?;
     assert!(rt; is_settled(&table) && clashes == 1, "at {table:?}");
+    Ok(())
+}
+
+/// The six symbols.
+type Rivals = (Rival, Rival, Rival, Rival, Rival, Rival);
+
+/// These, and of each list the symbol that counts, with its case.
+type Chosen = (Rivals, (usize, ChoiceCase), (usize, ChoiceCase));
+
+/// Nothing is left of it.
+const GONE: Rival = (Undefined, false, false);
+
+const CHOSEN: &[Chosen] = &[
+    (
+        (
+            (Weak, false, true),
+            (Common(4), false, true),
+            (Strong, false, true),
+            GONE,
+            (Common(8), false, true),
+            GONE,
+        ),
+        (2, ChoiceCase::Strong),
+        (4, ChoiceCase::Common),
+    ),
+    (
+        (
+            GONE,
+            (Strong, true, false),
+            GONE,
+            GONE,
+            GONE,
+            (Weak, false, true),
+        ),
+        (5, ChoiceCase::Weak),
+        (1, ChoiceCase::Surviving),
+    ),
+    (
+        (GONE, GONE, GONE, GONE, GONE, (Undefined, false, true)),
+        (5, ChoiceCase::Loaded),
+        (1, ChoiceCase::First),
+    ),
+];
+
+/// The choices of the two lists among these symbols.
+fn two_choices(alloc: Global, rivals: Rivals) -> Result<Vec<NameChoice>, AllocError> {
+    let (a, b, c, d, e, f) = rivals;
+    let table = table();
+    let survivors = Survivors {
+        strengths: &[a.0, b.0, c.0, d.0, e.0, f.0],
+        dynamic: &[a.1, b.1, c.1, d.1, e.1, f.1],
+        held: &[a.2, b.2, c.2, d.2, e.2, f.2],
+        weak_overrides_common: false,
+        allow_multiple: false,
+    };
+    choices(alloc, &survivors, &TwoLists, &table, true)
+}
+
+/// Whether the choice is among these symbols, and as expected.
+fn is_choice(choice: &NameChoice, symbols: &[SymbolId], expected: (usize, ChoiceCase)) -> bool {
+    choice.symbols.as_slice() == symbols
+        && choice.is_versioned
+        && choice.chosen.as_usize() == expected.0
+        && choice.case == expected.1
+}
+
+/// Whether the choices of the two lists are told as expected.
+fn are_told(alloc: Global, chosen: Chosen) -> Result<bool, AllocError> {
+    let (rivals, first, second) = chosen;
+    let [a, b, c, _, e, _] = table();
+    let d = SymbolId::from_usize(3);
+    let told = two_choices(alloc, rivals)?;
+    match told.as_slice() {
+        [x, y] => Ok(is_choice(x, &[a, c, d], first) && is_choice(y, &[b, e], second)),
+        _ => Ok(false),
+    }
+}
+
+#[test]
+fn what_counts_is_told(rt: HostRuntime) -> Result<(), Fail> {
+    for &chosen in CHOSEN {
+        let is_told = are_told(rt.alloc(), chosen)?;
+        assert!(rt; is_told, "at {chosen:?}");
+    }
+    Ok(())
+}
+
+/// How many choices there are where the definitions of plain names and those of versions are the two lists, and how many are of versions.
+fn count_choices(alloc: Global) -> Result<(usize, usize), AllocError> {
+    let survivors = Survivors {
+        strengths: &[Weak, Strong, Undefined, Weak, Strong, Strong],
+        dynamic: &[true, false, false, false, false, false],
+        held: &[true, true, true, true, true, true],
+        weak_overrides_common: false,
+        allow_multiple: false,
+    };
+    let told = name_choices(alloc, &survivors, &TwoLists, &TwoLists)?;
+    let versioned = told.iter().filter(|choice| choice.is_versioned).count();
+    Ok((told.len(), versioned))
+}
+
+#[test]
+fn what_counts_is_told_of_both_kinds(rt: HostRuntime) -> Result<(), Fail> {
+    let counts = count_choices(rt.alloc())?;
+    assert!(rt; counts == (4, 2), "at {counts:?}");
     Ok(())
 }
 

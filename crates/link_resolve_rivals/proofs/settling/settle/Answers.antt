@@ -4,7 +4,7 @@ use Rattle.std.proofs.lemmas.List.{append-nil}
 use Rattle.std.proofs.lemmas.List.Elements.{All-push}
 use Rattle.link_resolve_rivals.specs.Settled.{IsInside, clash_at, settled_at, settled_on}
 use Rattle.link_resolve_rivals.proofs.Passes.{list-is, number-at}
-use Rattle.link_resolve_rivals.proofs.SettlePass.{clash-same, clashes-more, settled-all, settled-more}
+use Rattle.link_resolve_rivals.proofs.SettlePass.{clash-same, settled-all, settled-more, told-more}
 use Rattle.link_resolve_rivals.proofs.settling.settle.Goals as goal
 use Rattle.link_resolve_rivals.proofs.settling.settle.Goals.{in-Some+in_ok-push, in_default}
 
@@ -23,7 +23,7 @@ loop-number-preserved g c =
       clashes = λ selection tells.
           let told = c.in_ok-told.ensures.clash selection tells ∙ ap (λ h. clash_at selection (listed h) table h) c.from_usize-head.ensures
           ∙ clash-same selection listed (length old) c.requires.lists old i table (so_far.table selection tells) in
-          clashes-more (λ s. clash_at selection (listed s) old s) c.loop-number.clashes.items _ i (length old) c.in_ok-told.told (omega arith) told
+          told-more (λ s. clash_at selection (listed s) old s) c.loop-number.clashes.items _ i (length old) c.in_ok-told.told (omega arith) told
           (elim c.match-told.branch [
             | in-Some+in_ok-push w ↦
                 ap (λ v. v.items) w.clashes-is ∙ w.in_ok-push.ensures.items ∙ sym (ap (λ o. c.loop-number.clashes.items ++ option_to_list o) w.in-Some.is)
