@@ -3,3 +3,4 @@ pub mod Survivors
 pub mod Settled
 pub mod Narrowed
 pub mod Chosen
+pub mod Gathered
