@@ -62,6 +62,10 @@ pub three-more : {X : Type 0} (old a b all x y z : List X) → a ≡ old ++ x �
 three-more old a b all x y z first second third =
     third ∙ (ap (λ l. l ++ z) (second ∙ ap (λ l. l ++ y) first) ∙ (append_assoc (old ++ x) y z ∙ append_assoc old x (y ++ z)))
 
+-- three parts behind others are one part behind them
+pub three-behind : {X : Type 0} (old x y z : List X) → ((old ++ x) ++ y) ++ z ≡ old ++ ((x ++ y) ++ z)
+three-behind old x y z = ap (λ l. l ++ z) (append_assoc old x y) ∙ append_assoc old (x ++ y) z
+
 -- the names of the prelude's redirects, then those of the linker scripts', are those of all redirects
 pub redirects-more : (w : Stage) (options : Options) (scripts : List ProcessedLinkerScript) (old own defined all : List Bytes)
     → w.options ≡ options → w.scripts ≡ scripts → own ≡ old ++ targets_in options.linker_symbols → defined ≡ own ++ targets_in options.defsym → all ≡ defined ++ script_targets scripts

@@ -7,8 +7,8 @@ mod requests;
 mod roots;
 mod targets;
 
-pub use names::{referred_names, root_names};
+pub use names::{lasting_names, referred_names, root_names};
 pub use objects::{object_marks, objects_of};
 pub use requests::request_by;
-pub use roots::root_objects;
+pub use roots::{object_of_name, root_objects};
 pub use targets::looked_up;

@@ -4,6 +4,7 @@ ghost use Rattle.std.specs.Prelude.{◌≡◌, ◌++◌, IfOk, OnOk, map, option
 ghost use Rattle.link_db_files.specs.Inputs.{scripts_in};
 ghost use Rattle.link_db_texts.specs.Holds.{platform_of};
 ghost use Rattle.link_resolve_requests.specs.Names.{forced_in, script_targets, targets_in};
+ghost use Rattle.link_rules.specs.FoundRoots.{lasting_names};
 ghost use Rattle.link_rules.specs.Loading.{entry_name, forced_names, redirect_targets, root_names, targets_of_placement};
 ghost use Rattle.link_rules.specs.Places.{Bytes};
 ghost use Rattle.link_rules.specs.World.{Stage};
@@ -131,6 +132,20 @@ fn push_entry<'a, P: Platform>(
     Ok(())
 }
 
+/// Adds the root names but for the entry.
+fn push_lasting<'a, P: Platform>(
+    names: &mut Vec<NameView<'a>>,
+    db: &'a SymbolDb<P>,
+) -> Result<(), AllocError>
+    ensures { OnOk result ((demangle : Bytes → Bytes) (w : Stage) → IsAtStage (platform_of P.Platform) demangle (seen db.now) w
+        → names.new.items ≡ names.old.items ++ lasting_names w) }
+{
+    push_names(names, db.required_export_symbols())?;
+    push_forced_names(names, db.options())?;
+    push_redirect_targets(names, db.options(), db.groups())?;
+    Ok(())
+}
+
 /// The names whose objects are loaded whatever refers to them: the entry, the names that must be exported, those that the user wants to
 /// be defined, and those that redirects refer to. The only refusal is want of memory.
 pub fn root_names<'a, P: Platform>(
@@ -141,9 +156,20 @@ pub fn root_names<'a, P: Platform>(
 {
     let mut names = Vec::new(alloc);
     push_entry(&mut names, db)?;
-    push_names(&mut names, db.required_export_symbols())?;
-    push_forced_names(&mut names, db.options())?;
-    push_redirect_targets(&mut names, db.options(), db.groups())?;
+    push_lasting(&mut names, db)?;
+    Ok(names)
+}
+
+/// The root names but for the entry, in their order: those of a later batch stand behind those of an earlier one. The only refusal is
+/// want of memory.
+pub fn lasting_names<'a, P: Platform>(
+    alloc: Global,
+    db: &'a SymbolDb<P>,
+) -> Result<Vec<NameView<'a>>, AllocError>
+    ensures { IfOk result (λ names. (demangle : Bytes → Bytes) (w : Stage) → IsAtStage (platform_of P.Platform) demangle (seen db.now) w → names.items ≡ lasting_names w) }
+{
+    let mut names = Vec::new(alloc);
+    push_lasting(&mut names, db)?;
     Ok(names)
 }
 

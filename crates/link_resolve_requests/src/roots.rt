@@ -30,8 +30,12 @@ fn object_at(sources: &[SymbolSource], id: SymbolId) -> Option<usize>
     sources.get(id.as_usize())?.object
 }
 
-/// The object that holds what the name is mapped to.
-fn holder<P: Platform>(db: &SymbolDb<P>, sources: &[SymbolSource], name: &NameView) -> Option<usize>
+/// The object that holds what the name is mapped to. The sources are those of the database's files (`link_db_files`).
+pub fn object_of_name<P: Platform>(
+    db: &SymbolDb<P>,
+    sources: &[SymbolSource],
+    name: &NameView,
+) -> Option<usize>
     ensures { (demangle : Bytes → Bytes) (w : Stage) → IsAtStage (platform_of P.Platform) demangle (seen db.now) w → sources.now ≡ sources_of w.symbols
         → result ≡ option_and_then (object_of w) (first_definition w name.now) }
 {
@@ -61,7 +65,7 @@ fn mark_holders<P: Platform>(
         → (f : ℕ) → f < length marks.old → is_marked marks.new f ≡ (is_marked marks.old f || list_any (holds_name w f) names.now) }
 {
     for name in names {
-        mark(marks, holder(db, sources, name));
+        mark(marks, object_of_name(db, sources, name));
     }
 }
 

@@ -22,7 +22,7 @@ loop-name-preserved g c = λ demangle w at sources f lt.
     let inside : f < length c.loop-name.marks = omega (arith, lt, c.loop-name.auto.marks) in
     let next : drop i names ≡ name ∷ drop (i + 1) names = rest_is names i name c.loop-name-test.true c.name-item.is in
     let rest = list_any (holds_name w f) (drop (i + 1) names) in
-    let held : c.holder.result ≡ option_and_then (object_of w) (first_definition w name) = c.holder.ensures demangle w at sources in
+    let held : c.object_of_name.result ≡ option_and_then (object_of w) (first_definition w name) = c.object_of_name.ensures demangle w at sources in
     let marked : is_marked c.mark.new.marks f ≡ (old || holds_name w f name) = c.mark.ensures f inside ∙ ap (λ (o : Option ℕ). old || is_number o f) held in
     ap (λ (b : Bool). b || rest) marked ∙ (or_assoc old (holds_name w f name) rest
     ∙ (ap (λ (l : List Bytes). old || list_any (holds_name w f) l) (sym next) ∙ c.loop-name.invariant demangle w at sources f lt))

@@ -8,7 +8,7 @@ use Rattle.link_db_mapping.specs.Mapped.{mapping_of}
 use Rattle.link_db.specs.Seen.{seen}
 use Rattle.link_db_files.specs.declared.sources.SymbolSource.{SymbolSource}
 use Rattle.link_resolve_requests.proofs.Rooted.{object-there}
-use Rattle.link_resolve_requests.proofs.roots.holder.Goals as goal
+use Rattle.link_resolve_requests.proofs.roots.object_of_name.Goals as goal
 
 -- the name is mapped to nothing
 pub returns-in_err-id : goal.returns-in_err-id
