@@ -434,6 +434,53 @@ fn there_are_no_rounds(rt: HostRuntime) -> Result<(), Fail> {
     Ok(())
 }
 
+/// It lets the item 1 through once an item behind it has come, and each item behind it once two of these have, or after many turns.
+#[derive(Drop)]
+struct Sharing {
+    came: AtomicU64,
+    late: AtomicU64,
+}
+
+impl Gate for Sharing {
+    fn before(&self, item: usize) {
+        if item == 0 {
+            return;
+        }
+        if item > 1 {
+            self.came.fetch_add(1, Ordering::SeqCst);
+        }
+        let wanted = if item > 1 { 2 } else { 1 };
+        for _ in 0..100_000_000u64 {
+            if self.came.load(Ordering::SeqCst) >= wanted {
+                return;
+            }
+        }
+        self.late.fetch_add(1, Ordering::SeqCst);
+    }
+
+    fn after(&self, _item: usize) {}
+}
+
+/// Whether two threads claim what one does, and how many of them waited in vain.
+fn share<R: Threads + Sync>(rt: &R, alloc: Global) -> Result<(bool, u64), AllocError> {
+    let plan = Scattered::new(11, 2, false);
+    let gate = Sharing {
+        came: AtomicU64::new(0),
+        late: AtomicU64::new(0),
+    };
+    let outcome = by_threads(rt, alloc, &gate, 2, &plan)?;
+    let wanted = by_work_list(alloc, &plan)?;
+    Ok((outcome.claimed == wanted, gate.late.load(Ordering::SeqCst)))
+}
+
+/// The files 0 and 1 are roots. The item 0 requests the files 2 and 8, and whoever read it begins one of their items: then the item 1 is let through, and
+/// whoever reads that takes the other item over.
+#[test]
+fn a_worker_takes_what_another_found(rt: HostRuntime) -> Result<(), Fail> {
+    assert_eq!(rt; share(&rt, rt.alloc())?, (true, 0));
+    Ok(())
+}
+
 /// How many files and items there are in the outcome of a plan without files, and its flags.
 fn read_none<R: Threads + Sync>(rt: &R, alloc: Global) -> Result<(usize, usize, u32), AllocError> {
     let plan = Scattered::new(0, 0, false);
