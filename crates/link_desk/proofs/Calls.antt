@@ -1,5 +1,5 @@
 -- Calls of passes, by their places.
-use Rattle.std.proofs.Common.{ℕ, ◌≡◌, ◌+◌, ◌<◌, ◌∙◌, List, [], ◌∷◌, zero, suc, length, slice_get, get_or, take, length-take, refl, Some, inl, inr, arith, sym, ap, subst}
+use Rattle.std.proofs.Common.{ℕ, ◌≡◌, ◌+◌, ◌<◌, ◌∙◌, List, [], ◌∷◌, zero, suc, length, slice_get, get_or, refl, Some, inl, inr, arith, sym, ap, subst}
 use Rattle.std.proofs.lemmas.Bool.{cases_eq}
 use Rattle.std.proofs.lemmas.Option.{get_or_from_slice_get, same_Some, slice_get-get_or, slice_get_within}
 use Rattle.link_desk.specs.declared.pass.Kept.{Kept}
@@ -18,36 +18,6 @@ call_at cs i j c y within is at = record { pass = c; stands = slice_get-get_or c
 pub pass_within : (cs : List Carried) (p k : ℕ) (x : Kept) → IsCallAt cs p k x → p < length cs
 pass_within cs p k x at = slice_get_within cs p at.pass at.stands
 
--- where none of the passes below i has the place, and the i-th hasn't either
-pub none_more : (cs : List Carried) (place i : ℕ) (c : Carried) → c ≡ get_or cs i c
-    → ((j : ℕ) (y : Kept) → slice_get c.calls j ≡ Some y → y.place ≡ place → ⊥)
-    → ((q j : ℕ) (y : Kept) → q < i → IsCallAt cs q j y → y.place ≡ place → ⊥)
-    → (q j : ℕ) (y : Kept) → q < i + 1 → IsCallAt cs q j y → y.place ≡ place → ⊥
-none_more cs place i c is here before q j y less at same = elim (cases_eq q i) [
-  | inl e ↦ (let P : ℕ → Type 0 = λ n. IsCallAt cs n j y in here j y (at_index cs i j c y is (subst P e at)) same)
-  | inr e ↦ before q j y (omega (arith, e)) at same
-]
-
--- the element of a front
-pub slice_get-take : {X : Type 0} (xs : List X) (p q : ℕ) → q < p → slice_get (take p xs) q ≡ slice_get xs q
-slice_get-take [] zero q less = refl
-slice_get-take [] (suc p) q less = refl
-slice_get-take (x ∷ xs) zero q less = absurd (omega (arith, less))
-slice_get-take (x ∷ xs) (suc p) zero less = refl
-slice_get-take (x ∷ xs) (suc p) (suc q) less = slice_get-take xs p q (omega (arith, less))
-
-pub take_within : {X : Type 0} (xs : List X) (p q : ℕ) (x : X) → slice_get (take p xs) q ≡ Some x → q < p
-take_within xs p q x at = omega (arith, slice_get_within (take p xs) q x at, length-take p xs)
-
--- the calls of the first passes
-pub call_in_front : (cs : List Carried) (p q j : ℕ) (y : Kept) → q < p → IsCallAt cs q j y → IsCallAt (take p cs) q j y
-call_in_front cs p q j y less at = record { pass = at.pass; stands = slice_get-take cs p q less ∙ at.stands; holds = at.holds }
-
-pub call_of_front : (cs : List Carried) (p q j : ℕ) (y : Kept) → IsCallAt (take p cs) q j y → (q < p) × IsCallAt cs q j y
-call_of_front cs p q j y at =
-    let less = take_within cs p q at.pass at.stands in
-    (less, record { pass = at.pass; stands = sym (slice_get-take cs p q less) ∙ at.stands; holds = at.holds })
-
 -- what is said of a pass's calls is said of the calls at its index
 pub past_of : (history : List Entry) (cs : List Carried) (p k : ℕ) (c : Carried) (calls : List Kept)
     → p < length cs → c ≡ get_or cs p c → calls ≡ c.calls → IsRightAt history cs p k
@@ -61,7 +31,7 @@ pub right_of : (history : List Entry) (cs : List Carried) (p k : ℕ) (c : Carri
     → c ≡ get_or cs p c → calls ≡ c.calls → call ≡ get_or calls k call
     → slice_get history call.place ≡ Some call.entry
     → ((j : ℕ) (y x : Kept) → j + 1 ≡ k → slice_get calls j ≡ Some y → slice_get calls k ≡ Some x → y.place < x.place)
-    → ((q j : ℕ) (y : Kept) → IsCallAt (take p cs) q j y → y.place ≡ call.place → ⊥)
+    → ((q j : ℕ) (y : Kept) → q < p → IsCallAt cs q j y → y.place ≡ call.place → ⊥)
     → IsRightAt history cs p k
 right_of history cs p k c calls call is same at found past apart x to =
     let here : slice_get calls k ≡ Some x = ap (λ (ks : List Kept). slice_get ks k) same ∙ at_index cs p k c x is to in
@@ -70,7 +40,7 @@ right_of history cs p k c calls call is same at found past apart x to =
     subst P (sym one) (record {
       found = found;
       past = λ j y e from. past j y call e (ap (λ (ks : List Kept). slice_get ks j) same ∙ at_index cs p j c y is from) (here ∙ ap (λ (z : Kept). Some z) one);
-      apart = λ q j y less from clash. apart q j y (call_in_front cs p q j y less from) clash;
+      apart = apart;
     })
 
 -- a list has an element at each place below its length
@@ -81,12 +51,11 @@ some_at (x ∷ xs) (suc k) less = some_at xs k (omega (arith, less))
 
 pub apart_of : (history : List Entry) (cs : List Carried) (p k : ℕ) (c : Carried) (calls : List Kept) (call : Kept)
     → p < length cs → c ≡ get_or cs p c → calls ≡ c.calls → call ≡ get_or calls k call → k < length calls → IsRightAt history cs p k
-    → (q j : ℕ) (y : Kept) → IsCallAt (take p cs) q j y → y.place ≡ call.place → ⊥
-apart_of history cs p k c calls call within is same at less right q j y from clash =
+    → (q j : ℕ) (y : Kept) → q < p → IsCallAt cs q j y → y.place ≡ call.place → ⊥
+apart_of history cs p k c calls call within is same at less right q j y earlier from clash =
     let here : slice_get calls k ≡ Some call = slice_get-get_or calls k call less ∙ ap (λ (z : Kept). Some z) (sym at) in
     let to = call_at cs p k c call within is (ap (λ (ks : List Kept). slice_get ks k) (sym same) ∙ here) in
-    let front = call_of_front cs p q j y from in
-    (right call to).apart q j y front.0 front.1 clash
+    (right call to).apart q j y earlier from clash
 
 -- the pass at an index, as it is looked up
 pub looked_up : (cs : List Carried) (p : ℕ) (c : Carried) → p < length cs → c ≡ get_or cs p c → slice_get cs p ≡ Some c

@@ -1,12 +1,11 @@
 -- Where the passes have as many calls as the history, and each is right, each entry of the history is the call of exactly one pass.
-use Rattle.std.proofs.Common.{ℕ, zero, suc, ◌≡◌, ◌+◌, ◌<◌, ◌≤◌, ◌∙◌, List, [], ◌∷◌, length, slice_get, take, Some, inl, inr, arith, refl, sym, ap, subst}
+use Rattle.std.proofs.Common.{ℕ, zero, suc, ◌≡◌, ◌+◌, ◌<◌, ◌≤◌, ◌∙◌, List, [], ◌∷◌, length, slice_get, Some, inl, inr, arith, refl, sym, ap, subst}
 use Rattle.std.proofs.lemmas.Bool.{cases_order}
 use Rattle.std.proofs.lemmas.Option.{slice_get_within, same_Some}
 use Rattle.std.proofs.lemmas.List.Sums.{sum_by-cons}
 use Rattle.link_desk.specs.declared.entry.Entry.{Entry}
 use Rattle.link_desk.specs.declared.pass.Kept.{Kept}
-use Rattle.link_desk.specs.Passes.{AreAllAscending, AreCallsOf, ArePassesRight, AreRight, Carried, IsCallAt, IsPassRight, calls_in}
-use Rattle.link_desk.proofs.Calls.{call_of_front}
+use Rattle.link_desk.specs.Passes.{AreCallsOf, AreRight, Carried, IsCallAt, IsPassRight, calls_in}
 use Rattle.link_desk.proofs.Counting.{below, below-add, below-full, below-one, below-zero, one_at, one_at-cases}
 
 -- how often a place stands in the calls of a pass, and of all passes
@@ -120,13 +119,6 @@ ordered_in history cs p right j (suc k) x y less at to =
 
 pub ordered_calls : (history : List Entry) (cs : List Carried) → AreRight history cs → (p j k : ℕ) (x y : Kept) → j < k → IsCallAt cs p j x → IsCallAt cs p k y → x.place < y.place
 ordered_calls history cs right p = ordered_in history cs p (right p)
-
--- the calls of the passes before one are in order, where these are right
-pub ascending_before : (history : List Entry) (cs : List Carried) (p : ℕ) → ArePassesRight history cs p → AreAllAscending (take p cs)
-ascending_before history cs p right q c at j k x y less here there =
-    let before = call_of_front cs p q j x (record { pass = c; stands = at; holds = here }) in
-    let behind = call_of_front cs p q k y (record { pass = c; stands = at; holds = there }) in
-    ordered_in history cs q (right q before.0) j k x y less before.1 behind.1
 
 pub apart_calls : (history : List Entry) (cs : List Carried) → AreRight history cs → AreApartIn cs
 apart_calls history cs right p q j k x y at to same = elim (cases_order p q) [

@@ -1,4 +1,5 @@
 pub mod Calls
+pub mod Claimed
 pub mod Closings
 pub mod Counting
 pub mod Found

@@ -1,5 +1,5 @@
 -- A history that replays, with one call more.
-use Rattle.std.proofs.Common.{ℕ, ◌≡◌, ◌+◌, ◌++◌, ◌∙◌, List, [], ◌∷◌, length, length-append, refl, sym, ap, subst, arith}
+use Rattle.std.proofs.Common.{ℕ, Bool, ◌≡◌, ◌+◌, ◌++◌, ◌∙◌, List, [], ◌∷◌, length, length-append, refl, sym, ap, subst, arith}
 use Rattle.link_input.specs.declared.options.Options.{Options}
 use Rattle.link_input.specs.declared.world.Scripts.{Scripts}
 use Rattle.link_desk.specs.declared.entry.Entry.{Entry}
@@ -26,3 +26,9 @@ replayed_more options texts d e s history book old may left grown more =
       legal = subst Q (sym grown) (legal-append start d.history e old.legal (subst P old.session may));
       book = omega (arith, old.book, more, ap (λ (es : List Entry). length es) grown, length-append d.history (e ∷ []));
     }
+
+-- there is a mark for each call, with one more of both
+pub marked_more : (marks marks' : List Bool) (history history' : List Entry) (e : Entry) → length marks ≡ length history
+    → length marks' ≡ length marks + 1 → history' ≡ history ++ e ∷ [] → length marks' ≡ length history'
+marked_more marks marks' history history' e each more grown =
+    omega (arith, each, more, ap (λ (es : List Entry). length es) grown, length-append history (e ∷ []))

@@ -1,5 +1,6 @@
 -- What passes carry, and when their calls are those of a history.
-use Rattle.std.specs.Prelude.{ℕ, ◌≡◌, ◌≢◌, ◌⊎◌, ◌+◌, ◌<◌, List, length, slice_get, sum_by, Some}
+use Rattle.std.specs.Prelude.{ℕ, ◌≡◌, ◌≢◌, ◌⊎◌, ◌↔◌, ◌+◌, ◌<◌, Bool, List, length, slice_get, sum_by, Some}
+use Rattle.link_closure.specs.Graph.{IsMarked}
 use Rattle.link_desk.specs.declared.entry.Entry.{Entry}
 use Rattle.link_desk.specs.declared.pass.Kept.{Kept}
 
@@ -39,10 +40,6 @@ AreRight history passes = (p k : ℕ) (x : Kept) → IsCallAt passes p k x → I
 abbrev pub IsPassRight : List Entry → List Carried → ℕ → Type 0
 IsPassRight history passes p = (k : ℕ) (x : Kept) → IsCallAt passes p k x → IsRight history passes p k x
 
--- those of the passes before pass p are
-abbrev pub ArePassesRight : List Entry → List Carried → ℕ → Type 0
-ArePassesRight history passes p = (q : ℕ) → q < p → IsPassRight history passes q
-
 -- the k-th call of pass p is wrong, and those before it in the pass are right
 pub record IsWrongIn (history : List Entry) (passes : List Carried) (p k : ℕ) (x : Kept) : Type 0 where
   pub stands : IsCallAt passes p k x
@@ -63,10 +60,6 @@ pub record AreCallsOf (history : List Entry) (passes : List Carried) : Type 0 wh
       × ((q j : ℕ) (y : Kept) → IsCallAt passes q j y → y.place ≡ i → (q ≡ p) × (j ≡ k))
   pub ordered : (p j k : ℕ) (x y : Kept) → j < k → IsCallAt passes p j x → IsCallAt passes p k y → x.place < y.place
 
--- each call of a list stands past those before it
-abbrev pub AreAscending : List Kept → Type 0
-AreAscending calls = (j k : ℕ) (x y : Kept) → j < k → slice_get calls j ≡ Some x → slice_get calls k ≡ Some y → x.place < y.place
-
--- so do those of each of these passes
-abbrev pub AreAllAscending : List Carried → Type 0
-AreAllAscending passes = (p : ℕ) (c : Carried) → slice_get passes p ≡ Some c → AreAscending c.calls
+-- of the entries of a history, those are marked at whose places the calls of the passes before pass p stand
+abbrev pub AreClaimed : List Bool → List Carried → ℕ → Type 0
+AreClaimed claimed passes p = (i : ℕ) → i < length claimed → IsMarked claimed i ↔ ((q j : ℕ) × (y : Kept) × (q < p) × IsCallAt passes q j y × (y.place ≡ i))

@@ -1,13 +1,15 @@
 //! How the calls of passes are compared with a history.
 
 ghost use Rattle.std.specs.Prelude.{◌≡◌, ◌≢◌, ◌⊎◌, ◌↔◌, ◌+◌, ◌<◌, ◌≤◌, ◌^◌, IfSome, IsTrue, MatchOption, Some, length, slice_get, vec_len, ℕ};
+ghost use Rattle.link_closure.specs.Graph.{IsMarked};
 ghost use Rattle.link_desk.specs.declared.pass.Kept.{Kept};
-ghost use Rattle.link_desk.specs.Passes.{AreAllAscending, AreAscending, ArePassesRight, AreRight, Carried, IsCallAt, IsFirstWrong, IsPassRight, IsRightAt, IsWrongIn, calls_in, parts_in};
+ghost use Rattle.link_desk.specs.Passes.{AreClaimed, AreRight, Carried, IsCallAt, IsFirstWrong, IsPassRight, IsRightAt, IsWrongIn, calls_in, parts_in};
 
 use crate::entry::Entry;
 use crate::opening::Opening;
 use crate::pass::{Kept, Pass};
 use crate::state::DeskState;
+use link_closure::is_marked;
 use std::sync::ledger::{Book, Ledger, Total};
 
 /// Why a desk is not closed.
@@ -38,41 +40,6 @@ fn stands(history: &[Entry], call: &Kept) -> bool
     }
 }
 
-/// Whether one of the calls, which are in the order of their places, has the place: the half in which it may be is halved.
-fn has_place(calls: &[Kept], place: usize) -> bool
-    requires { AreAscending calls.now }
-    ensures { IsTrue result ↔ ((j : ℕ) × (y : Kept) × (slice_get calls.now j ≡ Some y) × (y.place ≡ place)) }
-{
-    let mut low = 0;
-    let mut high = calls.len();
-    while low < high {
-        let middle = low + (high - low) / 2;
-        let found = calls[middle].place;
-        if found == place {
-            return true;
-        }
-        if found < place {
-            low = middle + 1;
-        } else {
-            high = middle;
-        }
-    }
-    false
-}
-
-/// Whether one of the passes has a call with the place.
-fn stands_in<L: Ledger>(passes: &[Pass<L>], place: usize) -> bool
-    requires { AreAllAscending passes.now }
-    ensures { IsTrue result ↔ ((q j : ℕ) × (y : Kept) × IsCallAt passes.now q j y × (y.place ≡ place)) }
-{
-    for pass in passes {
-        if has_place(pass.calls(), place) {
-            return true;
-        }
-    }
-    false
-}
-
 /// Whether the call stands past the one before it.
 fn is_past(calls: &[Kept], k: usize) -> bool
     requires { k < length calls.now }
@@ -84,11 +51,18 @@ fn is_past(calls: &[Kept], k: usize) -> bool
     calls[k - 1].place < calls[k].place
 }
 
-/// Whether the k-th call of pass p is right.
-fn is_right<L: Ledger>(history: &[Entry], passes: &[Pass<L>], p: usize, k: usize) -> bool
+/// Whether the k-th call of pass p is right, where the entries are marked that the passes before it claim.
+fn is_right<L: Ledger>(
+    history: &[Entry],
+    claimed: &[bool],
+    passes: &[Pass<L>],
+    p: usize,
+    k: usize,
+) -> bool
     requires pass { p < length passes.now }
     requires call { (c : Carried) → slice_get passes.now p ≡ Some c → k < length c.calls }
-    requires before { ArePassesRight history.now passes.now p }
+    requires each { length claimed.now ≡ length history.now }
+    requires claimed { AreClaimed claimed.now passes.now p }
     ensures { IsTrue result ↔ IsRightAt history.now passes.now p k }
 {
     let calls = passes[p].calls();
@@ -99,31 +73,69 @@ fn is_right<L: Ledger>(history: &[Entry], passes: &[Pass<L>], p: usize, k: usize
     if !is_past(calls, k) {
         return false;
     }
-    !stands_in(&passes[..p], call.place)
+    !is_marked(claimed, call.place)
 }
 
-/// The first wrong call of pass p.
-fn wrong_in<L: Ledger>(history: &[Entry], passes: &[Pass<L>], p: usize) -> Option<usize>
+/// The first wrong call of pass p, where the entries are marked that the passes before it claim.
+fn wrong_in<L: Ledger>(
+    history: &[Entry],
+    claimed: &[bool],
+    passes: &[Pass<L>],
+    p: usize,
+) -> Option<usize>
     requires pass { p < length passes.now }
-    requires before { ArePassesRight history.now passes.now p }
+    requires each { length claimed.now ≡ length history.now }
+    requires claimed { AreClaimed claimed.now passes.now p }
     ensures { MatchOption result (IsPassRight history.now passes.now p) (λ k. (x : Kept) × IsWrongIn history.now passes.now p k x) }
 {
     for k in 0..passes[p].calls().len() {
-        if !is_right(history, passes, p, k) {
+        if !is_right(history, claimed, passes, p, k) {
             return Some(k);
         }
     }
     None
 }
 
-/// The first wrong call: its pass, and its place in the pass's list.
-fn first_wrong<L: Ledger>(history: &[Entry], passes: &[Pass<L>]) -> Option<(usize, usize)>
-    ensures { MatchOption result (AreRight history.now passes.now) (λ at. (x : Kept) × IsFirstWrong history.now passes.now at.0 at.1 x) }
+/// Marks the entry at the place of a call.
+fn claim(claimed: &mut [bool], place: usize)
+    ensures each { length claimed.new ≡ length claimed.old }
+    ensures claimed { place < length claimed.old → IsMarked claimed.new place }
+    ensures kept { (i : ℕ) → IsMarked claimed.old i → IsMarked claimed.new i }
+    ensures only { (i : ℕ) → IsMarked claimed.new i → IsMarked claimed.old i ⊎ (i ≡ place) }
 {
+    if place < claimed.len() {
+        claimed[place] = true;
+    }
+}
+
+/// Marks the entries at the places of the calls.
+fn claim_all(claimed: &mut [bool], calls: &[Kept])
+    ensures each { length claimed.new ≡ length claimed.old }
+    ensures claimed { (j : ℕ) (y : Kept) → slice_get calls.now j ≡ Some y → y.place < length claimed.old → IsMarked claimed.new y.place }
+    ensures kept { (i : ℕ) → IsMarked claimed.old i → IsMarked claimed.new i }
+    ensures only { (i : ℕ) → IsMarked claimed.new i → IsMarked claimed.old i ⊎ ((j : ℕ) × (y : Kept) × (slice_get calls.now j ≡ Some y) × (y.place ≡ i)) }
+{
+    for call in calls {
+        claim(claimed, call.place);
+    }
+}
+
+/// The first wrong call: its pass, and its place in the pass's list. There is a mark for each entry of the history.
+fn first_wrong<L: Ledger>(
+    history: &[Entry],
+    claimed: &mut [bool],
+    passes: &[Pass<L>],
+) -> Option<(usize, usize)>
+    requires { length claimed.old ≡ length history.now }
+    ensures each { length claimed.new ≡ length claimed.old }
+    ensures first { MatchOption result (AreRight history.now passes.now) (λ at. (x : Kept) × IsFirstWrong history.now passes.now at.0 at.1 x) }
+{
+    claimed.fill(false);
     for p in 0..passes.len() {
-        if let Some(k) = wrong_in(history, passes, p) {
+        if let Some(k) = wrong_in(history, claimed, passes, p) {
             return Some((p, k));
         }
+        claim_all(claimed, passes[p].calls());
     }
     None
 }
@@ -139,16 +151,19 @@ fn taken_at<L: Ledger>(passes: &mut Vec<Pass<L>>, p: usize, k: usize) -> Kept
     passes[p].taken(k)
 }
 
-/// Takes the first wrong call out, with the number of its pass.
+/// Takes the first wrong call out, with the number of its pass. There is a mark for each entry of the history.
 pub(crate) fn take_wrong<L: Ledger>(
     history: &[Entry],
+    claimed: &mut [bool],
     passes: &mut Vec<Pass<L>>,
 ) -> Option<(usize, Kept)>
+    requires { length claimed.old ≡ length history.now }
+    ensures each { length claimed.new ≡ length claimed.old }
     ensures call { MatchOption result (AreRight history.now passes.old.items) (λ found. (k : ℕ) × IsFirstWrong history.now passes.old.items found.0 k found.1) }
     ensures calls { calls_in passes.new.items ≡ calls_in passes.old.items }
     ensures parts { parts_in passes.new.items ≡ parts_in passes.old.items }
 {
-    let Some((p, k)) = first_wrong(history, passes.as_slice()) else {
+    let Some((p, k)) = first_wrong(history, claimed, passes.as_slice()) else {
         return None;
     };
     let call = taken_at(passes, p, k);

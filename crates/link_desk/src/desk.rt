@@ -63,8 +63,8 @@ impl<L: Opening> Desk<L> {
 
     /// Compares the calls of the passes with the history, and gives the state. It is refused with `SharesMissing` where the
     /// passes have fewer calls than the book counts, else with `Differs` and the first call that isn't as the history has
-    /// it. Where the passes have all parts, no share is missing. Takes no memory; for a pass of n calls it takes n searches
-    /// in each pass before it. So a caller that added a batch finds its names later, unless the session ended between.
+    /// it. Where the passes have all parts, no share is missing. Takes no memory, and time in the number of
+    /// calls and entries. So a caller that added a batch finds its names later, unless the session ended between.
     pub fn close(self, passes: Vec<Pass<L>>) -> Result<DeskState<L>, CloseError<L>>
         ensures closed { IsClosed L.options L.texts passes.items result }
         ensures sees { IfOk result (λ state. SeesAdded state.history) }

@@ -22,9 +22,10 @@ pub(crate) fn settle<L: Opening>(
     let DeskState {
         session,
         history,
+        mut claimed,
         mut book,
     } = state;
-    let wrong = take_wrong(history.as_slice(), &mut passes);
+    let wrong = take_wrong(history.as_slice(), claimed.as_mut_slice(), &mut passes);
     let sum = gathered(&mut book, passes);
     if sum < history.len() {
         return Err(CloseError::SharesMissing {
@@ -36,6 +37,7 @@ pub(crate) fn settle<L: Opening>(
     let state = DeskState {
         session,
         history,
+        claimed,
         book,
     };
     match wrong {

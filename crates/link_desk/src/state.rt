@@ -31,17 +31,20 @@ use std::thread::Threads;
 pub struct DeskState<L: Opening> {
     pub(crate) session: Session<ElfLike, Plain>,
     pub(crate) history: Vec<Entry>,
+    /// A mark for each entry, which tells whether a pass claims it as the desk is closed.
+    pub(crate) claimed: Vec<bool>,
     pub(crate) book: Book<L>,
 }
 
 impl<L: Opening> Model for DeskState<L> {
+    ghost use Rattle.std.specs.Prelude.{◌≡◌, length};
     ghost use Rattle.link_desk.specs.Replay.{Desked, IsReplayed};
 
     ghost Value = { Desked };
 
     ghost view = { λ d. record { session = d.session; history = d.history.items; book = d.book.total } };
 
-    ghost invariant = { λ d. IsReplayed L.options L.texts (record { session = d.session; history = d.history.items; book = d.book.total }) };
+    ghost invariant = { λ d. IsReplayed L.options L.texts (record { session = d.session; history = d.history.items; book = d.book.total }) × (length d.claimed.items ≡ length d.history.items) };
 }
 
 /// Why a desk is not opened.
@@ -71,14 +74,17 @@ fn refused(error: SessionError) -> DeskError
 /// Keeps a call for which there is room, counts it in book and share, and answers its place.
 fn keep<L: Ledger>(
     history: &mut Vec<Entry>,
+    claimed: &mut Vec<bool>,
     book: &mut Book<L>,
     share: &mut Share<L>,
     entry: Entry,
 ) -> usize
     requires room { vec_len history.old < vec_capacity history.old }
+    requires mark { vec_len claimed.old < vec_capacity claimed.old }
     requires part { 0 < share.old.parts }
     ensures place { result ≡ length history.old.items }
     ensures history { history.new.items ≡ history.old.items ++ entry ∷ [] }
+    ensures mark { length claimed.new.items ≡ length claimed.old.items + 1 }
     ensures book { book.new.total ≡ book.old.total + 1 }
     ensures amount { share.new.amount ≡ share.old.amount + 1 }
     ensures parts { share.new.parts ≡ share.old.parts }
@@ -86,6 +92,7 @@ fn keep<L: Ledger>(
     book.add(share, 1);
     let place = history.len();
     history.push_reserved(entry);
+    claimed.push_reserved(false);
     place
 }
 
@@ -117,6 +124,7 @@ impl<L: Opening> DeskState<L> {
         let state = DeskState {
             session,
             history: Vec::new(alloc),
+            claimed: Vec::new(alloc),
             book,
         };
         Ok((state, share))
@@ -162,10 +170,17 @@ impl<L: Opening> DeskState<L> {
         ensures replayed { IsReplayed L.options L.texts self.new }
     {
         self.history.reserve(1)?;
+        self.claimed.reserve(1)?;
         let copy = batch.copied(*self.history.allocator())?;
         let reply = add_to(rt, &mut self.session, batch);
         let entry = Entry::Add(copy, reply);
-        let place = keep(&mut self.history, &mut self.book, share, entry);
+        let place = keep(
+            &mut self.history,
+            &mut self.claimed,
+            &mut self.book,
+            share,
+            entry,
+        );
         Ok((place, reply))
     }
 
@@ -186,10 +201,17 @@ impl<L: Opening> DeskState<L> {
         ensures replayed { IsReplayed L.options L.texts self.new }
     {
         self.history.reserve(1)?;
+        self.claimed.reserve(1)?;
         let copy = Name::from_slice(*self.history.allocator(), name)?;
         let reply = ask_of(&self.session, name);
         let entry = Entry::Ask(copy, reply.copied());
-        let place = keep(&mut self.history, &mut self.book, share, entry);
+        let place = keep(
+            &mut self.history,
+            &mut self.claimed,
+            &mut self.book,
+            share,
+            entry,
+        );
         Ok((place, reply))
     }
 }
