@@ -1,11 +1,12 @@
 -- The loaded objects at the end of a link are those that follow from what is found for roots at all of its stages.
-use Rattle.std.proofs.Common.{◌≡◌, ℕ, ◌+◌, ◌⊎◌, List, [], ◌∷◌, ◌++◌, length, Bool, true, false, cond, refl, sym, ◌∙◌, ap, subst, inl, inr, arith, Some, None, Option, Contains, slice_get, append_assoc}
+use Rattle.std.proofs.Common.{◌≡◌, ℕ, suc, ◌+◌, ◌≤◌, ◌⊎◌, All, List, [], ◌∷◌, ◌++◌, length, Bool, true, false, cond, refl, sym, ◌∙◌, ap, subst, inl, inr, arith, Some, None, Option, Contains, slice_get, append_assoc}
 use Rattle.std.specs.Prelude.{◌&&◌, ◌||◌, ◌==◌, IsTrue, Ok, find, filter_map, is_some, not, option_and_then, option_map, option_to_list}
 use Rattle.std.specs.List.{cons_option, flat_map, list_any, range_with_len}
 use Rattle.std.specs.Option.{option_map_or, option_or}
 use Rattle.std.proofs.lemmas.Bool.{eqb-true, eq-eqb}
 use Rattle.std.proofs.lemmas.Option.{slice_get_within}
 use Rattle.std.proofs.lemmas.Grind.{flat_map-append}
+use Rattle.std.proofs.lemmas.List.Elements.{All-cons, All-nil}
 use Rattle.link_input.specs.declared.internal_symbols.InternalSymDefInfo.{InternalSymDefInfo}
 use Rattle.link_input.specs.declared.world.ProcessedLinkerScript.{ProcessedLinkerScript}
 use Rattle.link_input.specs.PreludeSymbols.{prelude_symbols}
@@ -15,6 +16,7 @@ use Rattle.link_input.specs.Entries.{is_weak}
 use Rattle.link_input.specs.InputFiles.{Batch}
 use Rattle.link_input.specs.ObjectFile.{ObjectFile, is_optional}
 use Rattle.link_input.specs.Symbols.{Symbol, object_in, is_shared, entry_passes}
+use Rattle.link_rules.specs.declared.explanation.Explanation.{Explanation}
 use Rattle.link_rules.specs.declared.explanation.FoundRoot.{FoundRoot}
 use Rattle.link_rules.specs.Places.{Bytes, is_number, same_number}
 use Rattle.link_rules.specs.World.{World, Stage, object_of, start_of, with_batch, is_reference}
@@ -25,7 +27,8 @@ use Rattle.link_rules.specs.Marking.{ended}
 use Rattle.link_rules.specs.Orderly.{IsOrderly}
 use Rattle.link_rules.specs.Selection.{Selection, loaded_target, selection_of, target_of}
 use Rattle.link_rules.specs.Answer.{BatchesEnd, End, EndsWith}
-use Rattle.link_rules.specs.Reasons.{Loads, is_mandatory, is_rooted, root_name_of}
+use Rattle.link_rules.specs.Reasons.{LeadBack, Loads, is_mandatory, is_rooted, root_name_of}
+use Rattle.link_rules.specs.Explained.{Explains, IsExplanation}
 use Rattle.link_rules.specs.FoundRoots.{Passes, PassesFrom, found_at, found_entries, found_for, found_roots, lasting_names}
 use Rattle.link_rules.proofs.Settled.{here, there, here_or_there, nothing_in, none_some, some_same}
 use Rattle.link_rules.proofs.Twice.{slice_get-each_from}
@@ -34,7 +37,8 @@ use Rattle.link_rules.proofs.Batches.{batch-goes-on, ok-same}
 use Rattle.link_rules.proofs.Stages.{loaded_target-is, orderly-grows, orderly-start, orderly-stays}
 use Rattle.link_rules.proofs.Rounds.{either, any-found, found-any}
 use Rattle.link_rules.proofs.Members.{at_place, placed, joined_from, joined_in, range_in}
-use Rattle.link_rules.proofs.Explaining.{is_number-true, and-both, or-left, or-right}
+use Rattle.link_rules.proofs.WorldOnce.{one-loaded}
+use Rattle.link_rules.proofs.Explaining.{each-back, one-explanation, is_number-true, and-both, or-left, or-right}
 
 -- ---- what is left of the references of loaded objects
 
@@ -547,3 +551,67 @@ passes-from is_late before b (c ∷ cs) l ends =
 
 pub passes-world : (world : World) (l : Selection) → BatchesEnd world (Ok l) → (ws : List Stage) × Passes world ws l
 passes-world world l ends = passes-from false (start_of world) world.first world.later l ends
+
+-- ---- stages, one after another
+
+-- a list has as many entries at least as one of which it has each, at its place
+longer : {A : Type 0} (xs ys : List A) → ((i : ℕ) (x : A) → slice_get xs i ≡ Some x → slice_get ys i ≡ Some x) → length xs ≤ length ys
+longer [] ys known = omega arith
+longer (x ∷ xs) [] known = absurd (none_some x (known 0 x refl))
+longer (x ∷ xs) (y ∷ ys) known = let rest = longer xs ys (λ i z at. known (suc i) z at) in omega (arith, rest)
+
+-- what holds of whatever stands in a list holds of all of it
+all-within : {A : Type 0} (Is : A → Type 0) (xs : List A) → ((x : A) → Contains xs x → Is x) → All Is xs
+all-within Is [] each = All-nil Is
+all-within Is (x ∷ xs) each = All-cons Is x xs (each x (here x xs)) (all-within Is xs (λ y within. each y (there x xs y within)))
+
+-- no stage of a link has more lasting names than the last one
+pub fewer-names : (world : World) (ws : List Stage) (l : Selection) → Passes world ws l → All (λ w. length (lasting_names w) ≤ length (lasting_names l.stage)) ws
+fewer-names world ws l passes =
+    let stages = extended (start_of world) world.first world.later ws l passes in
+    all-within (λ w. length (lasting_names w) ≤ length (lasting_names l.stage)) ws
+    (λ w within. longer (lasting_names w) (lasting_names l.stage) (stages.all w within).names)
+
+-- a link passes its stages in one way
+pub passes-once : (before : Stage) (b : Batch) (later : List Batch) (ws vs : List Stage) (l k : Selection) → PassesFrom before b later ws l → PassesFrom before b later vs k
+    → (ws ≡ vs) × (l ≡ k)
+passes-once before b [] ws vs l k (m, loaded, stages, is) (n, loaded', stages', is') =
+    (stages ∙ sym stages', is ∙ (ap (selection_of (with_batch before b)) (one-loaded (with_batch before b) m n loaded loaded') ∙ sym is'))
+passes-once before b (c ∷ cs) ws vs l k (m, loaded, rest, stages, on) (n, loaded', rest', stages', on') =
+    let moved = subst (λ (x : List Bool). PassesFrom (ended (selection_of (with_batch before b) x)) c cs rest' k) (one-loaded (with_batch before b) n m loaded' loaded) on' in
+    let further = passes-once (ended (selection_of (with_batch before b) m)) c cs rest rest' l k on moved in
+    (stages ∙ (ap (λ (xs : List Stage). with_batch before b ∷ xs) further.0 ∙ sym stages'), further.1)
+
+-- with one batch more it passes one stage more, the last one
+pub passes-more : (before : Stage) (b : Batch) (later : List Batch) (c : Batch) (ws : List Stage) (l : Selection) → PassesFrom before b (later ++ c ∷ []) ws l
+    → (front : List Stage) × (k : Selection) × PassesFrom before b later front k × (ws ≡ front ++ l.stage ∷ [])
+passes-more before b [] c ws l (m, loaded, rest, stages, on) =
+    let s = with_batch before b in (
+      s ∷ [],
+      selection_of s m,
+      (m, loaded, refl, refl),
+      stages ∙ ap (λ (xs : List Stage). s ∷ xs) (on.2 ∙ ap (λ (x : Selection). x.stage ∷ []) (sym on.3)),
+    )
+passes-more before b (d ∷ ds) c ws l (m, loaded, rest, stages, on) =
+    let s = with_batch before b in
+    let further = passes-more (ended (selection_of s m)) d ds c rest l on in
+    (s ∷ further.0, further.1, (m, loaded, further.0, refl, further.2), stages ∙ ap (λ (xs : List Stage). s ∷ xs) further.3)
+
+-- the selection with which a link passes its stages is the one with which its batches end
+pub passes-with : (world : World) (ws : List Stage) (l k : Selection) → Passes world ws l → BatchesEnd world (Ok k) → l ≡ k
+passes-with world ws l k passes ends =
+    let other = passes-world world k ends in
+    (passes-once (start_of world) world.first world.later ws other.0 l k passes other.1).1
+
+-- a link of a world has one explanation
+pub one-of-world : (world : World) (a b : Explanation) → IsExplanation world a → IsExplanation world b → a ≡ b
+one-of-world world a b (ws, l, passes, is) (vs, k, passes', is') =
+    let same = passes-once (start_of world) world.first world.later ws vs l k passes passes' in
+    one-explanation l (found_roots ws l.stage) a b is
+    (subst (λ (x : Selection). Explains x (found_roots ws x.stage) b) (sym same.1) (subst (λ (xs : List Stage). Explains k (found_roots xs k.stage) b) (sym same.0) is'))
+
+-- from each loaded object its reasons lead back
+pub explained-back : (world : World) (e : Explanation) → IsExplanation world e → All (λ r. (n : ℕ) × LeadBack e.reasons n r.object) e.reasons
+explained-back world e (ws, l, passes, is) =
+    let least = follows-from_all world ws l passes in
+    all-within (λ r. (n : ℕ) × LeadBack e.reasons n r.object) e.reasons (λ r within. each-back l (found_roots ws l.stage) least e.reasons is.reasons r within)

@@ -203,3 +203,13 @@ module _ (l : Selection) (roots : List FoundRoot) where
           let equal : m ≡ n = omega arith in
           subst (λ k. LeadBack reasons k o) (sym equal) (leads-back n o (subst (λ k. HasLevel l roots k o) equal before)))
           level it.0 it.1 it.2 it.0.reason refl it.3
+
+      -- from each object that has a reason the reasons lead back
+      pub each-back : (r : LoadedReason) → Contains reasons r → (n : ℕ) × LeadBack reasons n r.object
+      each-back r within = by r.reason (All-contains (λ (q : LoadedReason). IsReason l roots q.object q.reason) reasons r are.reason within)
+        where
+          by : (reason : Reason) → IsReason l roots r.object reason → (n : ℕ) × LeadBack reasons n r.object
+          by Required holds = (0, leads-back 0 r.object (level-of-root r.object (or-left (is_mandatory l.stage r.object) _ holds)))
+          by (Root name) holds =
+              (0, leads-back 0 r.object (level-of-root r.object (or-right (is_mandatory l.stage r.object) (is_some (root_name_of roots r.object)) (ap is_some holds.1))))
+          by (Reference s o) holds = (holds.1 + 1, leads-back (holds.1 + 1) r.object holds.2)

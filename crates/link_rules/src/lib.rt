@@ -12,7 +12,10 @@ mod refusal;
 
 pub use explanation::{ChoiceCase, Explanation, FoundRoot, LoadedReason, NameChoice, Reason};
 pub use laws_examples::definitions_at_work;
-pub use laws_explanation::{an_explanation_leads_back, loaded_objects_follow_from_all_roots};
+pub use laws_explanation::{
+    a_link_has_one_explanation, a_link_passes_its_stages_once, an_explanation_leads_back,
+    loaded_objects_follow_from_all_roots,
+};
 pub use laws_work::{
     each_stage_has_its_loaded_objects, each_stage_is_orderly, items_are_their_object,
     stages_have_the_symbols_of_their_files, work_is_the_link,
