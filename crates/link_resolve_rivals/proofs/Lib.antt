@@ -8,5 +8,4 @@ pub mod NarrowPass
 pub mod NameLists
 pub mod Tables
 pub mod NameChoices
-pub mod HeadedLists
 pub mod TwoLists

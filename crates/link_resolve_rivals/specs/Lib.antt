@@ -3,4 +3,3 @@ pub mod Survivors
 pub mod Settled
 pub mod Narrowed
 pub mod Chosen
-pub mod Gathered

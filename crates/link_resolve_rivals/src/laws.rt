@@ -1,13 +1,12 @@
 //! Laws: functions that do nothing, whose clauses say how lists of rivals make the tables, lines and flags of a link.
 
-ghost use Rattle.std.specs.Prelude.{◌≡◌, ◌<◌, ℕ, List, Option, length, map};
-ghost use Rattle.link_rules.specs.Places.{each_from, first_of};
+ghost use Rattle.std.specs.Prelude.{◌≡◌, ℕ, List, length, map};
+ghost use Rattle.link_rules.specs.Places.{each_from};
 ghost use Rattle.link_rules.specs.Refusals.{plain_duplicates, versioned_duplicates};
 ghost use Rattle.link_rules.specs.Rivals.{plain_table, reference_table, versioned_table};
 ghost use Rattle.link_rules.specs.Selection.{Selection};
 ghost use Rattle.link_rules.specs.Visibility.{narrowed_symbol};
 ghost use Rattle.link_rules.specs.World.{Stage};
-ghost use Rattle.link_resolve_rivals.specs.Gathered.{AscendFrom, gathered, head_in};
 ghost use Rattle.link_resolve_rivals.specs.Lists.{AreLists, plain_lists, versioned_lists};
 ghost use Rattle.link_resolve_rivals.specs.Narrowed.{narrowed};
 ghost use Rattle.link_resolve_rivals.specs.Settled.{clash_line, clashes, settled_table};
@@ -35,12 +34,4 @@ pub fn clashes_are_the_duplicates()
 pub fn narrowing_twice_joins_both()
     ensures { (w : Stage) (flags : List ℕ) → narrowed w (versioned_lists w) (narrowed w (plain_lists w) flags)
         ≡ each_from (narrowed_symbol w flags) 0 w.symbols }
-{}
-
-/// Lists that ascend are those that are gathered from their heads. The definitions of names ascend.
-pub fn heads_tell_the_lists()
-    ensures lists { (listed : ℕ → List ℕ) (count : ℕ) (heads : List (Option ℕ)) → AreLists listed count → ((s : ℕ) → AscendFrom 0 (listed s))
-        → length heads ≡ count → ((s : ℕ) → s < count → head_in heads s ≡ first_of (listed s)) → (s : ℕ) → gathered heads s ≡ listed s }
-    ensures plain { (w : Stage) (s : ℕ) → AscendFrom 0 (plain_lists w s) }
-    ensures versioned { (w : Stage) (s : ℕ) → AscendFrom 0 (versioned_lists w s) }
 {}

@@ -3,7 +3,6 @@
 #![tactic(auto)]
 
 mod choosing;
-mod gathering;
 mod laws;
 mod lists;
 mod narrowing;
@@ -11,9 +10,8 @@ mod settling;
 mod survivors;
 
 pub use choosing::{choices, name_choices};
-pub use gathering::GatheredLists;
 pub use laws::{
-    clashes_are_the_duplicates, heads_tell_the_lists, names_make_lists, narrowing_twice_joins_both,
+    clashes_are_the_duplicates, names_make_lists, narrowing_twice_joins_both,
     settling_gives_the_tables,
 };
 pub use lists::RivalLists;
