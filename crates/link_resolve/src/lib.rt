@@ -17,6 +17,7 @@ mod versions;
 
 pub use definitions::{Definitions, names_are_mapped_to_symbols};
 pub use laws::the_rust_form_narrows;
+pub use lists::{PlainLists, VersionedLists};
 pub use resolved::{Resolved, resolved_symbol_strength};
 pub use resolver::Resolver;
 pub use rivals::resolve_alternative_symbol_definitions;
