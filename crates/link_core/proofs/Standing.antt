@@ -1,5 +1,5 @@
 -- A link that stands: what is so of it behind each call, and how the calls of a session tell why they refuse.
-use Rattle.std.proofs.Common.{◌≡◌, ◌∙◌, ◌⊎◌, ◌<◌, ◌≤◌, ◌++◌, List, [], ◌∷◌, Option, Result, Ok, Err, append-nil, inl, inr, refl, sym, ap, subst, arith, length, length-append, map}
+use Rattle.std.proofs.Common.{◌≡◌, ◌∙◌, ◌⊎◌, ◌<◌, ◌≤◌, ◌++◌, List, [], ◌∷◌, Option, Some, Result, Ok, Err, append-nil, inl, inr, refl, sym, ap, subst, arith, length, length-append, map}
 use Rattle.std.specs.Prelude.{IfErr}
 use Rattle.std.specs.Option.{IsSomeAnd}
 use Rattle.std.specs.Result.{IsErrAnd}
@@ -16,14 +16,19 @@ use Rattle.link_db_texts.specs.Causes.{IsGiven, TellsCause}
 use Rattle.link_rules.specs.declared.refusal.LinkError.{LinkError}
 use Rattle.link_rules.specs.declared.refusal.LinkError.TheVariants as link
 use Rattle.link_rules.specs.Answer.{BatchesEnd}
+use Rattle.link_rules.specs.FoundRoots.{Passes}
 use Rattle.link_rules.specs.Places.{Bytes}
 use Rattle.link_rules.specs.Refusals.{text_refusal}
 use Rattle.link_rules.specs.Rules.{PlatformRules}
 use Rattle.link_rules.specs.Selection.{Selection}
-use Rattle.link_rules.specs.World.{World, world_of}
+use Rattle.link_rules.specs.World.{Stage, World, start_of, world_of}
+use Rattle.link_rules.proofs.AllRoots.{passes-more, passes-with}
+use Rattle.link_rules.proofs.Settled.{none_some, some_same}
 use Rattle.link_db.specs.Database.{Database}
 use Rattle.link_db.specs.Seen.{seen}
+use Rattle.link_db_stage.specs.AtStage.{IsAtStage}
 use Rattle.link_resolve.specs.Resolving.{Resolving}
+use Rattle.link_resolve_roots.specs.Found.{AreFound, Found}
 use Rattle.link_core.specs.declared.batch_size.BatchSize.{BatchSize}
 use Rattle.link_core.specs.declared.session_error.SessionError.{SessionError}
 use Rattle.link_core.specs.Given.{given_in_batches, world_of_batches}
@@ -31,7 +36,7 @@ use Rattle.link_core.specs.Results.{IsRefusedFor}
 use Rattle.link_core.specs.SessionErrors.{IsCause, IsToldAs}
 use Rattle.link_core.specs.Sizes.{batches_in, size_of}
 use Rattle.link_core.specs.declared.standing_link.StandingLink.{StandingLink}
-use Rattle.link_core.specs.Standing.{IsStanding, Stands, came_to}
+use Rattle.link_core.specs.Standing.{HaveNoted, IsStanding, Stands, came_to}
 use Rattle.link_core.specs.Steps.{HasRoom, IsHeldAt, IsNew, IsOpenWith, IsSteady, Selects}
 use Rattle.link_core.proofs.Cutting.{one-more-held, one-size-more}
 use Rattle.link_core.proofs.Holding.{Ends, ForNext, ends-open, for-next, groups-open, open-next}
@@ -58,27 +63,49 @@ module _ {P : Type 0} (platform : PlatformRules) (demangle : Bytes → Bytes) (t
       none = record { objects = []; scripts = []; stubs = [] }
 
   -- and the link stands
-  pub stands-new : (options : Options) (db : Database P) (words : List RawFlags) (r : Resolving) → IsNew platform demangle options texts db words r.known → IsSteady db words r.known
-      → IsStanding platform demangle texts [] db words r
-  stands-new options db words r new steady = record {
+  pub stands-new : (options : Options) (db : Database P) (words : List RawFlags) (r : Resolving) (found : Found) → IsNew platform demangle options texts db words r.known
+      → IsSteady db words r.known → AreFound [] found → IsStanding platform demangle texts [] db words r found
+  stands-new options db words r found new steady none = record {
     came = subst (λ (o : Options). IsNew platform demangle o texts db words r.known) (sym (options-new options db words r new)) new;
     steady = steady;
     sizes_are = refl;
+    noted = none;
   }
 
+  -- what is found at a stage of the database stands behind what was found
+  abbrev pub IsNotedWith : Database P → Found → Found → Type 0
+  IsNotedWith new found noted = (w : Stage) → IsAtStage platform demangle new w → (ws : List Stage) → AreFound ws found → AreFound (ws ++ w ∷ []) noted
+
+  -- what was found at the stages of the batches, with what is found with one more
+  noted-next : (options : Options) (done : List Batch) (b : Batch) (new : Database P) (after : List RawFlags) (next : Resolving) (found noted : Found)
+      → IsOpenWith platform demangle options texts (done ++ b ∷ []) new after next → HaveNoted platform demangle options texts done found → IsNotedWith new found noted
+      → HaveNoted platform demangle options texts (done ++ b ∷ []) noted
+  noted-next options [] b new after next found noted came none note = λ ws last passes.
+      let w = world_of platform demangle (given_in_batches b [] options texts) in
+      let same = passes-with w ws last came.selection passes came.held.loaded.selects.ends in
+      let at = subst (λ (k : Selection). IsAtStage platform demangle new k.stage) (sym same) came.held.loaded.selection.stage in
+      let one : ws ≡ last.stage ∷ [] = passes.2 ∙ ap (λ (k : Selection). k.stage ∷ []) (sym passes.3) in
+      subst (λ (vs : List Stage). AreFound vs noted) (sym one) (note last.stage at [] none)
+  noted-next options (f ∷ fs) b new after next found noted came before note = λ ws last passes.
+      let w = world_of platform demangle (given_in_batches f (fs ++ b ∷ []) options texts) in
+      let same = passes-with w ws last came.selection passes came.held.loaded.selects.ends in
+      let at = subst (λ (k : Selection). IsAtStage platform demangle new k.stage) (sym same) came.held.loaded.selection.stage in
+      let more = passes-more (start_of w) f fs b ws last passes in
+      subst (λ (vs : List Stage). AreFound vs noted) (sym more.3) (note last.stage at more.0 (before more.0 more.1 more.2))
+
   -- one batch more came, and one size more
-  pub record StandsNext (sizes more : List BatchSize) (b : Batch) (db new : Database P) (after : List RawFlags) (next : Resolving) : Type 0 where
-    pub standing : IsStanding platform demangle texts more new after next
+  pub record StandsNext (sizes more : List BatchSize) (b : Batch) (db new : Database P) (after : List RawFlags) (next : Resolving) (noted : Found) : Type 0 where
+    pub standing : IsStanding platform demangle texts more new after next noted
     pub batches : batches_in more new.mapping.files.groups ≡ batches_in sizes db.mapping.files.groups ++ b ∷ []
     pub options : new.options ≡ db.options
     pub selects : IsSomeAnd (world_of_batches platform demangle db.options texts (batches_in sizes db.mapping.files.groups ++ b ∷ [])) (λ w. (l : Selection) × Selects w l)
 
-  pub stands-next : (sizes more : List BatchSize) (b : Batch) (db new : Database P) (words after : List RawFlags) (r next : Resolving) → more ≡ sizes ++ size_of b ∷ []
-      → IsStanding platform demangle texts sizes db words r → HasRoom new after → IsSteady new after next.known
+  pub stands-next : (sizes more : List BatchSize) (b : Batch) (db new : Database P) (words after : List RawFlags) (r next : Resolving) (found noted : Found) → more ≡ sizes ++ size_of b ∷ []
+      → IsStanding platform demangle texts sizes db words r found → HasRoom new after → IsSteady new after next.known
       → ((batches : List Batch) → AreGroupsOf db.options batches db.mapping.files.groups → AreGroupsOf new.options (batches ++ b ∷ []) new.mapping.files.groups)
       → ForNext platform demangle db.options texts b db words r.known (λ w. (l : Selection) × IsHeldAt platform demangle w l new (numbers_of after) next)
-      → StandsNext sizes more b db new after next
-  stands-next sizes more b db new words after r next one stands room steady grown gives =
+      → IsNotedWith new found noted → StandsNext sizes more b db new after next noted
+  stands-next sizes more b db new words after r next found noted one stands room steady grown gives note =
       let done = batches_in sizes db.mapping.files.groups in
       let came = open-next platform demangle db.options texts done b db new words after r next stands.came room gives in
       let some : 0 < length (done ++ b ∷ []) = omega (arith, length-append done (b ∷ [])) in
@@ -91,6 +118,9 @@ module _ {P : Type 0} (platform : PlatformRules) (demangle : Bytes → Bytes) (t
               (subst (λ (o : Options). IsOpenWith platform demangle o texts (done ++ b ∷ []) new after next) (sym ends.options_are) came);
           steady = steady;
           sizes_are = ap (λ (bs : List Batch). map size_of bs) cut ∙ (one-size-more done b sizes stands.sizes_are ∙ sym one);
+          noted = subst (λ (bs : List Batch). HaveNoted platform demangle new.options texts bs noted) (sym cut)
+              (subst (λ (o : Options). HaveNoted platform demangle o texts (done ++ b ∷ []) noted) (sym ends.options_are)
+              (noted-next db.options done b new after next found noted came stands.noted note));
         };
         batches = cut;
         options = ends.options_are;
@@ -109,6 +139,14 @@ pub ends-standing : {P : Type 0} {G : Ghosts P} (platform : PlatformRules) (dema
     → Ends platform demangle (seen s.link.db).options s.texts (came_to s) (seen s.link.db) (words_of s.link.flags) s.link.resolver
 ends-standing platform demangle s stands some =
     ends-open platform demangle (seen s.link.db).options s.texts (came_to s) (seen s.link.db) (words_of s.link.flags) s.link.resolver some stands.came
+
+-- what was found for root names at the stages that the link of the batches passes
+pub noted-at : (platform : PlatformRules) (demangle : Bytes → Bytes) (options : Options) (texts : Scripts) (batches : List Batch) (found : Found) (w : World)
+    → HaveNoted platform demangle options texts batches found → world_of_batches platform demangle options texts batches ≡ Some w
+    → (ws : List Stage) (last : Selection) → Passes w ws last → AreFound ws found
+noted-at platform demangle options texts [] found w noted is = absurd (none_some w is)
+noted-at platform demangle options texts (b ∷ bs) found w noted is = λ ws last passes.
+    noted ws last (subst (λ (v : World). Passes v ws last) (sym (some_same (world_of platform demangle (given_in_batches b bs options texts)) w is)) passes)
 
 -- a text is the cause, whatever batches there are
 pub refused-text : (platform : PlatformRules) (demangle : Bytes → Bytes) (texts : Scripts) (options : Options) (batches : List Batch) (e : LinkError) → 0 < length batches

@@ -4,8 +4,10 @@ use Rattle.std.specs.Option.{IsSomeAnd}
 use Rattle.link_input.specs.declared.options.Options.{Options}
 use Rattle.link_input.specs.declared.world.Scripts.{Scripts}
 use Rattle.link_input.specs.InputFiles.{Batch}
+use Rattle.link_rules.specs.declared.explanation.Explanation.{Explanation}
 use Rattle.link_rules.specs.declared.refusal.LinkError.{LinkError}
 use Rattle.link_rules.specs.Answer.{IsLinked, IsRefused}
+use Rattle.link_rules.specs.Explained.{IsExplanation}
 use Rattle.link_rules.specs.Linked.{Linked}
 use Rattle.link_rules.specs.Places.{Bytes}
 use Rattle.link_rules.specs.Rules.{PlatformRules}
@@ -30,3 +32,7 @@ KeepsParts platform demangle options texts batches x = IsSomeAnd (world_of_batch
 -- it is refused for this cause
 abbrev pub IsRefusedFor : PlatformRules → (Bytes → Bytes) → Options → Scripts → List Batch → LinkError → Type 0
 IsRefusedFor platform demangle options texts batches cause = IsSomeAnd (world_of_batches platform demangle options texts batches) (λ w. IsRefused w cause)
+
+-- this is its explanation
+abbrev pub IsExplainedBy : PlatformRules → (Bytes → Bytes) → Options → Scripts → List Batch → Explanation → Type 0
+IsExplainedBy platform demangle options texts batches explanation = IsSomeAnd (world_of_batches platform demangle options texts batches) (λ w. IsExplanation w explanation)

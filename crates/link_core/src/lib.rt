@@ -20,6 +20,6 @@ mod settling;
 mod standing_link;
 
 pub use laws::{a_session_can_be_sent, a_world_selects_once};
-pub use link::{link_batches, link_symbols};
+pub use link::{link_batches, link_symbols, link_why};
 pub use session::Session;
 pub use session_error::SessionError;

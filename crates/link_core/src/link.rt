@@ -9,17 +9,44 @@ ghost use Rattle.link_db_texts.specs.Holds.{platform_of};
 ghost use Rattle.link_rules.specs.declared.refusal.LinkError.TheVariants.{Memory};
 ghost use Rattle.link_core_answer.specs.Parts.{answer_of};
 ghost use Rattle.link_core_answer.specs.Seen as answer;
-ghost use Rattle.link_core.specs.Results.{IsRefusedFor, KeepsParts, LinksTo};
+ghost use Rattle.link_db.specs.Seen.{seen};
+ghost use Rattle.link_core.specs.Results.{IsExplainedBy, IsRefusedFor, KeepsParts, LinksTo};
+ghost use Rattle.link_core.specs.Standing.{Stands, came_to};
 
 use crate::execution::Execution;
 use crate::standing_link::StandingLink;
 use link_claim::Gate;
 use link_core_answer::Linked;
 use link_input::{Inputs, Options, Platform, Scripts};
-use link_rules::LinkError;
+use link_rules::{Explanation, LinkError};
 use link_script::Demangler;
 use std::alloc::{AllocError, Global};
 use std::thread::Threads;
+
+/// The link of these batches, one after another, which may be asked for its end.
+fn link_all<R: Threads + Sync, P: Platform + Sync, D: Demangler + Sync, G: Gate + Sync>(
+    execution: &Execution<R, G>,
+    batches: Vec<Inputs<P>>,
+    options: Options,
+    scripts: Scripts,
+    demangler: &D,
+) -> Result<StandingLink<P>, LinkError>
+    requires workers { (1 ≤ execution.now.workers) × (execution.now.workers ≤ 256) }
+    requires files { (1 ≤ options.files_per_group) × (options.files_per_group ≤ 256) }
+    requires some { 1 ≤ length batches.items }
+    requires most { length batches.items ≤ batch_limit }
+    ensures standing { IfOk result (λ standing. Stands (platform_of P.Platform) (D.demangled demangler.now) standing) }
+    ensures options { IfOk result (λ standing. (seen standing.link.db).options ≡ options) }
+    ensures texts { IfOk result (λ standing. standing.texts ≡ scripts) }
+    ensures batches { IfOk result (λ standing. came_to standing ≡ map batch_of batches.items) }
+    ensures refused { IfErr result (λ error. IsRefusedFor (platform_of P.Platform) (D.demangled demangler.now) options scripts (map batch_of batches.items) error ⊎ (error ≡ Memory)) }
+{
+    let mut standing = StandingLink::open(execution.alloc, options, scripts, execution.workers)?;
+    for inputs in batches {
+        standing.link_next(execution, demangler, inputs)?;
+    }
+    Ok(standing)
+}
 
 /// Links batches of inputs, one after another: what an earlier batch loaded stays loaded, and what its references stand for stays. Each batch asks for what
 /// its own objects and those of all before it need; what counts of several definitions is settled once, behind the last.
@@ -46,17 +73,48 @@ pub fn link_batches<R: Threads + Sync, P: Platform + Sync, D: Demangler + Sync, 
     ensures objects { IfOk result (λ linked. objects_in (answer.seen linked).db.mapping.files.groups ≡ flat_map (λ b. b.objects) (map batch_of batches.items)) }
     ensures refused { IfErr result (λ error. IsRefusedFor (platform_of P.Platform) (D.demangled demangler.now) options scripts (map batch_of batches.items) error ⊎ (error ≡ Memory)) }
 {
-    let mut standing = StandingLink::open(alloc, options, scripts, workers)?;
     let execution = Execution {
         rt,
         alloc,
         gate,
         workers,
     };
-    for inputs in batches {
-        standing.link_next(&execution, demangler, inputs)?;
-    }
+    let standing = link_all(&execution, batches, options, scripts, demangler)?;
     standing.finish(alloc, demangler)
+}
+
+/// Links batches as `link_batches` does, and explains the link: why each loaded object is loaded, and which of several definitions of each name counts, by which
+/// case. lld's `--why-extract` and GNU ld's `-Map` tell the first in part.
+///
+/// It is refused as `link_batches` is.
+pub fn link_why<R: Threads + Sync, P: Platform + Sync, D: Demangler + Sync, G: Gate + Sync>(
+    rt: &R,
+    alloc: Global,
+    gate: &G,
+    batches: Vec<Inputs<P>>,
+    options: Options,
+    scripts: Scripts,
+    demangler: &D,
+    workers: usize,
+) -> Result<(Linked<P>, Explanation), LinkError>
+    requires workers { (1 ≤ workers) × (workers ≤ 256) }
+    requires files { (1 ≤ options.files_per_group) × (options.files_per_group ≤ 256) }
+    requires some { 1 ≤ length batches.items }
+    requires most { length batches.items ≤ batch_limit }
+    ensures linked { IfOk result (λ told. LinksTo (platform_of P.Platform) (D.demangled demangler.now) options scripts (map batch_of batches.items) (answer_of (answer.seen told.0))) }
+    ensures parts { IfOk result (λ told. KeepsParts (platform_of P.Platform) (D.demangled demangler.now) options scripts (map batch_of batches.items) (answer.seen told.0)) }
+    ensures objects { IfOk result (λ told. objects_in (answer.seen told.0).db.mapping.files.groups ≡ flat_map (λ b. b.objects) (map batch_of batches.items)) }
+    ensures explained { IfOk result (λ told. IsExplainedBy (platform_of P.Platform) (D.demangled demangler.now) options scripts (map batch_of batches.items) told.1) }
+    ensures refused { IfErr result (λ error. IsRefusedFor (platform_of P.Platform) (D.demangled demangler.now) options scripts (map batch_of batches.items) error ⊎ (error ≡ Memory)) }
+{
+    let execution = Execution {
+        rt,
+        alloc,
+        gate,
+        workers,
+    };
+    let standing = link_all(&execution, batches, options, scripts, demangler)?;
+    standing.explain(alloc, demangler)
 }
 
 /// A list of one batch.

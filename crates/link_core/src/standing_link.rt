@@ -12,6 +12,7 @@ ghost use Rattle.link_db_texts.specs.Causes.{IsGiven, TellsCause};
 ghost use Rattle.link_db_texts.specs.Holds.{platform_of};
 ghost use Rattle.link_rules.specs.declared.refusal.LinkError.TheVariants.{Memory};
 ghost use Rattle.link_rules.specs.Answer.{BatchesEnd, IsLinked, IsRefused};
+ghost use Rattle.link_rules.specs.Explained.{IsExplanation};
 ghost use Rattle.link_rules.specs.Places.{Bytes};
 ghost use Rattle.link_rules.specs.Refusals.{text_refusal};
 ghost use Rattle.link_rules.specs.Selection.{Selection};
@@ -24,19 +25,21 @@ ghost use Rattle.link_core.specs.Steps.{IsRefusedBehind, Selects};
 use crate::batch::link_batch;
 use crate::batch_size::BatchSize;
 use crate::execution::Execution;
-use crate::finishing::finish_link;
+use crate::finishing::{explain_link, finish_link};
 use crate::opening::{OpenLink, open_link};
 use link_claim::Gate;
 use link_core_answer::Linked;
 use link_input::{Inputs, Options, Platform, Scripts};
-use link_rules::LinkError;
+use link_resolve_roots::FoundRoots;
+use link_rules::{Explanation, LinkError};
 use link_script::Demangler;
 use std::alloc::{AllocError, Global};
 use std::thread::Threads;
 
-/// A link, the texts that it was given, and how many files each of its batches has.
+/// A link, what was found for root names as its batches came, the texts that it was given, and how many files each of its batches has.
 pub(crate) struct StandingLink<P: Platform> {
     pub(crate) link: OpenLink<P>,
+    pub(crate) found: FoundRoots,
     pub(crate) texts: Scripts,
     pub(crate) sizes: Vec<BatchSize>,
 }
@@ -46,6 +49,7 @@ impl<P: Platform> Drop for StandingLink<P> {
     fn drop(self) {
         let Self {
             link: _,
+            found: _,
             texts: _,
             sizes: _,
         } = self;
@@ -77,8 +81,14 @@ impl<P: Platform + Sync> StandingLink<P> {
         ensures batches { IfOk result (λ standing. came_to standing ≡ []) }
     {
         let link = open_link(alloc, options, &texts, workers)?;
+        let found = FoundRoots::new(alloc);
         let sizes = Vec::new(alloc);
-        Ok(StandingLink { link, texts, sizes })
+        Ok(StandingLink {
+            link,
+            found,
+            texts,
+            sizes,
+        })
     }
 
     /// Links one batch more. What is left of a refused link is of no use.
@@ -100,6 +110,7 @@ impl<P: Platform + Sync> StandingLink<P> {
     {
         let size = BatchSize::of(&inputs);
         link_batch(execution, demangler, &mut self.link, inputs)?;
+        self.found.note_batch(execution.alloc, &self.link.db)?;
         note_size(&mut self.sizes, size)?;
         Ok(())
     }
@@ -124,9 +135,40 @@ impl<P: Platform + Sync> StandingLink<P> {
     {
         let StandingLink {
             link,
+            found: _,
             texts: _,
             sizes: _,
         } = self;
         finish_link(alloc, link, demangler)
+    }
+
+    /// The link of all batches that came, with its explanation.
+    pub(crate) fn explain<D: Demangler>(
+        self,
+        alloc: Global,
+        demangler: &D,
+    ) -> Result<(Linked<P>, Explanation), LinkError>
+        requires standing { Stands (platform_of P.Platform) (D.demangled demangler.now) self }
+        requires some { 0 < length (came_to self) }
+        ensures linked { IfOk result (λ told.
+            IsSomeAnd (standing_world (platform_of P.Platform) (D.demangled demangler.now) self) (λ w. IsLinked w (answer_of (answer.seen told.0)))) }
+        ensures parts { IfOk result (λ told.
+            IsSomeAnd (standing_world (platform_of P.Platform) (D.demangled demangler.now) self) (λ w. HasParts w (answer.seen told.0))) }
+        ensures objects { IfOk result (λ told. objects_in (answer.seen told.0).db.mapping.files.groups ≡ flat_map (λ b. b.objects) (came_to self)) }
+        ensures explained { IfOk result (λ told.
+            IsSomeAnd (standing_world (platform_of P.Platform) (D.demangled demangler.now) self) (λ w. IsExplanation w told.1)) }
+        ensures refused { IfErr result (λ error.
+            IsSomeAnd (standing_world (platform_of P.Platform) (D.demangled demangler.now) self) (λ w. IsRefused w error) ⊎ (error ≡ Memory)) }
+        ensures behind { IfErr result (λ error.
+            IsSomeAnd (standing_world (platform_of P.Platform) (D.demangled demangler.now) self) (λ w. IsRefusedBehind w error) ⊎ (error ≡ Memory)) }
+    {
+        let StandingLink {
+            link,
+            found,
+            texts: _,
+            sizes: _,
+        } = self;
+        let roots = found.in_order()?;
+        explain_link(alloc, link, roots.as_slice(), demangler)
     }
 }

@@ -1,38 +1,23 @@
-use Rattle.std.proofs.Common.{inr, refl}
-use Rattle.link_rules.specs.declared.refusal.LinkError.TheVariants.{Memory}
+use Rattle.std.proofs.Common.{inr}
 use Rattle.link_core.proofs.Passing.{err-into, ok-into, refused-through}
 use Rattle.link_core.proofs.finishing.finish_link.Goals as goal
 
--- the rivals are the cause
-pub returns-in_err-db-clause-refused : goal.returns-in_err-db-clause-refused
-returns-in_err-db-clause-refused g c =
-    let demangle = g.D.Demangler.demangled c.args.demangler.now in
-    refused-through c.from_residual-in_err-db.result _ c.in_err-db.field-0.0 c.from_residual-in_err-db.ensures.1 (λ w l loaded. c.in_err-db.ensures.refused demangle w l (c.in_ok-point_symbols.ensures.pointed demangle w l loaded))
-
--- what comes behind them is
 pub returns-clause-refused : goal.returns-clause-refused
 returns-clause-refused g c =
-    let demangle = g.D.Demangler.demangled c.args.demangler.now in
-    err-into c.end_link.result _ _ (λ error held. λ w l loaded. held w l (c.in_ok-db.ensures.settled demangle w l (c.in_ok-point_symbols.ensures.pointed demangle w l loaded))) c.end_link.ensures.refused
+    err-into c.settle_and_end.result _ _ (λ x held. λ w l loaded. held w l (c.in_ok-point_symbols.ensures.pointed (g.D.Demangler.demangled c.args.demangler.now) w l loaded)) c.settle_and_end.ensures.refused
 
 pub returns-clause-objects : goal.returns-clause-objects
 returns-clause-objects g c =
-    let demangle = g.D.Demangler.demangled c.args.demangler.now in
-    ok-into c.end_link.result _ _ (λ linked held. λ w l loaded. held w l (c.in_ok-db.ensures.settled demangle w l (c.in_ok-point_symbols.ensures.pointed demangle w l loaded))) c.end_link.ensures.objects
+    ok-into c.settle_and_end.result _ _ (λ x held. λ w l loaded. held w l (c.in_ok-point_symbols.ensures.pointed (g.D.Demangler.demangled c.args.demangler.now) w l loaded)) c.settle_and_end.ensures.objects
 
 pub returns-clause-kept : goal.returns-clause-kept
 returns-clause-kept g c =
-    let demangle = g.D.Demangler.demangled c.args.demangler.now in
-    ok-into c.end_link.result _ _ (λ linked held. λ w l loaded. held w l (c.in_ok-db.ensures.settled demangle w l (c.in_ok-point_symbols.ensures.pointed demangle w l loaded))) c.end_link.ensures.kept
+    ok-into c.settle_and_end.result _ _ (λ x held. λ w l loaded. held w l (c.in_ok-point_symbols.ensures.pointed (g.D.Demangler.demangled c.args.demangler.now) w l loaded)) c.settle_and_end.ensures.kept
 
 pub returns-clause-linked : goal.returns-clause-linked
 returns-clause-linked g c =
-    let demangle = g.D.Demangler.demangled c.args.demangler.now in
-    ok-into c.end_link.result _ _ (λ linked held. λ w l loaded. held w l (c.in_ok-db.ensures.settled demangle w l (c.in_ok-point_symbols.ensures.pointed demangle w l loaded))) c.end_link.ensures.linked
+    ok-into c.settle_and_end.result _ _ (λ x held. λ w l loaded. held w l (c.in_ok-point_symbols.ensures.pointed (g.D.Demangler.demangled c.args.demangler.now) w l loaded)) c.settle_and_end.ensures.linked
 
 -- memory ran out
-pub returns-in_err-sections-clause-refused : goal.returns-in_err-sections-clause-refused
-returns-in_err-sections-clause-refused g c = refused-through c.from_residual-in_err-sections.result _ Memory c.from_residual-in_err-sections.ensures.1 (λ w l loaded. inr refl)
-
 pub returns-in_err-point_symbols-clause-refused : goal.returns-in_err-point_symbols-clause-refused
 returns-in_err-point_symbols-clause-refused g c = refused-through c.from_residual.result _ c.in_err-point_symbols.field-0.0 c.from_residual.ensures.1 (λ w l loaded. inr (c.in_err-point_symbols.ensures.refused (g.D.Demangler.demangled c.args.demangler.now) w l loaded))

@@ -25,6 +25,6 @@ returns g c =
     let e = c.in_ok-link_batch.ensures in
     let one = c.in_ok-note_size.ensures ∙ ap (λ (n : BatchSize). standing.sizes.items ++ n ∷ []) c.of-size.ensures in
     let next = stands-next (platform_of g.P.Platform) (g.D.Demangler.demangled c.args.demangler.now) standing.texts standing.sizes.items c.note_size.new.sizes.items (batch_of c.args.inputs)
-    (seen standing.link.db) (seen c.link_batch.new.link.db) (words_of standing.link.flags) (words_of c.link_batch.new.link.flags) standing.link.resolver c.link_batch.new.link.resolver one c.requires.standing
-    e.room e.steady e.groups e.loaded in
+    (seen standing.link.db) (seen c.link_batch.new.link.db) (words_of standing.link.flags) (words_of c.link_batch.new.link.flags) standing.link.resolver c.link_batch.new.link.resolver standing.found c.note_batch.new.self one c.requires.standing
+    e.room e.steady e.groups e.loaded (c.in_ok-note_batch.ensures (g.D.Demangler.demangled c.args.demangler.now)) in
     record { standing = next.standing; batches = next.batches; options = next.options; texts = refl; selects = next.selects; refused = tt }

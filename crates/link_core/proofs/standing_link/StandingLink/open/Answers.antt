@@ -12,8 +12,9 @@ use Rattle.link_core.proofs.standing_link.StandingLink.open.Goals as goal
 pub returns-clause-standing : goal.returns-clause-standing
 returns-clause-standing g c = λ demangle.
     let link = c.in_ok-link.link in
-    subst (λ (sizes : List BatchSize). IsStanding (platform_of g.P.Platform) demangle c.args.texts sizes (seen link.db) (words_of link.flags) link.resolver) (sym c.new-sizes.ensures.items)
-    (stands-new (platform_of g.P.Platform) demangle c.args.texts c.args.options (seen link.db) (words_of link.flags) link.resolver (c.in_ok-link.ensures.new demangle) c.in_ok-link.ensures.steady)
+    subst (λ (sizes : List BatchSize). IsStanding (platform_of g.P.Platform) demangle c.args.texts sizes (seen link.db) (words_of link.flags) link.resolver c.new-found.result) (sym c.new-sizes.ensures.items)
+    (stands-new (platform_of g.P.Platform) demangle c.args.texts c.args.options (seen link.db) (words_of link.flags) link.resolver c.new-found.result (c.in_ok-link.ensures.new demangle) c.in_ok-link.ensures.steady
+    c.new-found.ensures)
 
 pub returns-clause-options : goal.returns-clause-options
 returns-clause-options g c =

@@ -3,7 +3,7 @@ use Rattle.link_input.specs.InputFiles.{batch_of}
 use Rattle.link_db_texts.specs.Holds.{platform_of}
 use Rattle.link_db.specs.Seen.{seen}
 use Rattle.link_core.specs.Standing.{Stands, came_to}
-use Rattle.link_core.proofs.link.link_batches.Given as goal
+use Rattle.link_core.proofs.link.link_all.Given as goal
 
 -- the link stands, and the batches that are left come behind those that came
 abbrev pub invariant-loop-inputs : goal.invariant-loop-inputs
