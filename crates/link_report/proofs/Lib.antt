@@ -1,2 +1,3 @@
+mod Choosing
 mod Counted
 mod Walked

@@ -75,7 +75,7 @@ pub(crate) fn write_symbol_line(
 }
 
 /// Adds the name of a symbol.
-fn write_symbol_name(text: &mut String, name: &NameView<'_>) -> Result<(), AllocError>
+pub(crate) fn write_symbol_name(text: &mut String, name: &NameView<'_>) -> Result<(), AllocError>
     ensures { OnOk result (string_bytes text.new ≡ string_bytes text.old ++ symbol_name name.now) }
 {
     if name.is_empty() {
@@ -120,7 +120,10 @@ pub(crate) fn write_undefined_line(
 }
 
 /// Adds the version of a name, where it has one.
-fn write_version(text: &mut String, version: &Option<NameView<'_>>) -> Result<(), AllocError>
+pub(crate) fn write_version(
+    text: &mut String,
+    version: &Option<NameView<'_>>,
+) -> Result<(), AllocError>
     ensures { OnOk result (string_bytes text.new ≡ string_bytes text.old ++ version_text version.now) }
 {
     match version {
