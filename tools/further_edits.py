@@ -101,6 +101,25 @@ def checked(folder, function):
     return run.returncode, run.stdout
 
 
+def name_with_module(crate, file, function):
+    """A function's name with its crate and the module of this source file, by which `rt check --only` tells it from others of its name."""
+    parts = pathlib.PurePosixPath(file).with_suffix("").parts[1:]
+    return "::".join((crate, *(part for part in parts if part not in ("lib", "main", "mod")), function))
+
+
+def checked_by_name(folder, file, function):
+    """The function's name as the check takes it, with the status and the output of a check of it alone."""
+    status, output = checked(folder, function)
+    if "has no function" in output and "::" in function:
+        # The type of an impl has parameters, which stand in the name that a check gives it.
+        function = function.split("::")[-1]
+        status, output = checked(folder, function)
+    if "several functions are named" in output:
+        function = name_with_module(folder.name, file, function)
+        status, output = checked(folder, function)
+    return function, status, output
+
+
 def tried_alone(folder, edit):
     """What the check of an edit's function came to; None where it refuses nothing, or the edit stands in no function."""
     try:
@@ -109,15 +128,12 @@ def tried_alone(folder, edit):
         return "BAD EDIT", str(why)
     if function is None:
         return None
+    file = next(file for file in texts if file.startswith("src/"))
     originals = {file: (folder / file).read_text(encoding="utf-8") for file in texts}
     try:
         for file, text in texts.items():
             (folder / file).write_text(text, encoding="utf-8")
-        status, output = checked(folder, function)
-        if "has no function" in output and "::" in function:
-            # The type of an impl has parameters, which stand in the name that a check gives it.
-            function = function.split("::")[-1]
-            status, output = checked(folder, function)
+        function, status, output = checked_by_name(folder, file, function)
     finally:
         for file, text in originals.items():
             (folder / file).write_text(text, encoding="utf-8")
