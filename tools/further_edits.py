@@ -27,7 +27,8 @@ FUNCTION = re.compile(r"^(\s*)(?:pub(?:\([a-z ]+\))? )?(?:const |unsafe )*fn (\w
 INHERENT = re.compile(r"^impl\b(?:<(?:[^<>]|<[^<>]*>)*>)?\s+(\w+)(?![^{]*\bfor\b)", re.M)
 OF_TRAIT = re.compile(r"^impl\b(?:<(?:[^<>]|<[^<>]*>)*>)?\s+(?:\w+::)*(\w+)(?:<(?:[^<>]|<[^<>]*>)*>)?\s+for\s+(\w+)", re.M)
 CHECKED = re.compile(r"^only=(\d+) proved=(\d+)$", re.M)
-OPEN = re.compile(r"\(`([\w-]+)`\)|`search` did not prove `([\w-]+)`")
+OPEN = re.compile(r"\(`([\w-]+)`\)")
+LISTED = re.compile(r"`search` did not prove (`[\w-]+`(?:,? (?:and )?`[\w-]+`)*)")
 GONE = re.compile(r"^(note: )?(\./)?proofs/.*(has no field|is not in scope|has no `|was not admitted)")
 TOLD = re.compile(r"^(note: )?\S+:\d+:\d+:")
 WHOLE = re.compile(r"rt: must-fail (\S+)/(\S+): (refused|NOT REFUSED|BAD EDIT|NOT TRIED)(.*)")
@@ -79,6 +80,12 @@ def applied(folder, edit):
     return texts, function
 
 
+def open_goals(output):
+    """The goals that a check left open, as it names them."""
+    listed = " ".join(LISTED.findall(output))
+    return {*OPEN.findall(output), *re.findall(r"`([\w-]+)`", listed)}
+
+
 def verdict_of(status, output):
     """What a check of one function came to, and what was said: None if the function is still proved."""
     counts = CHECKED.search(output)
@@ -90,8 +97,7 @@ def verdict_of(status, output):
     lines = [line for line in output.split("\n") if TOLD.match(line)]
     if lines and all(GONE.match(line) for line in lines):
         return "refused", "only because a proof file names what the edit took away"
-    goals = {one or other for one, other in OPEN.findall(output)}
-    clauses = sorted({goal.split("-clause-")[-1] for goal in goals})
+    clauses = sorted({goal.split("-clause-")[-1] for goal in open_goals(output)})
     return "refused", ", ".join(clauses) or (lines[0][:160] if lines else "")
 
 
