@@ -3,7 +3,9 @@
 
 mod asking;
 mod hidden;
+mod laws;
 mod targets;
 
 pub use asking::requests;
+pub use laws::a_first_stage_has_these_columns;
 pub use targets::reference_targets;
