@@ -3,3 +3,4 @@ pub mod TooLong
 pub mod OneText
 pub mod OfWorld
 pub mod VerdefEndings
+pub mod WhyText

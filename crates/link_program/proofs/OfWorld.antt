@@ -9,7 +9,7 @@ use Rattle.std.specs.Prelude.{IfSome}
 use Rattle.link_rules.specs.Linked.{Linked as Answer}
 use Rattle.link_rules.specs.declared.refusal.LinkError.{LinkError}
 use Rattle.link_rules.specs.declared.refusal.LinkError.TheVariants as refusal
-use Rattle.link_rules.specs.Answer.{IsLinked, IsRefused}
+use Rattle.link_rules.specs.Answer.{IsLinked, IsRefused, IsReport}
 use Rattle.link_rules.specs.Places.{Bytes}
 use Rattle.link_rules.specs.Report.{refusal_text}
 use Rattle.link_rules.specs.World.{World}
@@ -22,22 +22,23 @@ use Rattle.link_program.specs.declared.status.Status.{Status}
 use Rattle.link_program.specs.declared.status.Status.TheVariants.{Linked, Refused, Usage, Manifest, ReadFault, WriteFault, Memory}
 use Rattle.link_program.specs.declared.run.Reading.{Reading}
 use Rattle.link_program.specs.declared.run.Reading.TheVariants as asked
-use Rattle.link_program.specs.declared.run.Told.TheVariants.{Report, Summary}
+use Rattle.link_program.specs.declared.run.Told.TheVariants.{Summary}
 use Rattle.link_program.specs.Grammar.{IsBulk}
-use Rattle.link_program.specs.Described.{error_line, given_of, objects_given, world_of_manifest}
-use Rattle.link_program.specs.Outcome.{told_text, text_read, IsReadText, IsSummary, IsTextFor, IsTextOf, IsTextRead, IsWholeText, IsWorldText}
+use Rattle.link_program.specs.Described.{error_line, given_of, world_of_manifest}
+use Rattle.link_program.specs.Outcome.{told_text, text_read, IsReadText, IsSummary, IsTextFor, IsTextOf, IsTextRead, IsToldOf, IsWholeText, IsWorldText}
+use Rattle.link_program.specs.Why.{IsWhyReport}
 use Rattle.link_program.specs.Verdef.{manifest_ending, refused_or, soname_ending, IsVerdefOf}
 
--- what is reported of a link of what some bytes describe, is so of the bytes
-pub text-of_link : (bytes : Bytes) (m : Described) (s : Status) (text : Bytes) → manifest_of bytes ≡ Ok m
-    → IsWorldText (world_of_manifest m) (told_text Report (objects_given (given_of m))) s text → IsTextOf bytes s text
-text-of_link bytes m Linked text is held = (m, is, held)
-text-of_link bytes m Refused text is (cause, told, line) = (m, cause, is, told, line)
-text-of_link bytes m Usage text is held = absurd held
-text-of_link bytes m Manifest text is held = absurd held
-text-of_link bytes m ReadFault text is held = absurd held
-text-of_link bytes m WriteFault text is held = absurd held
-text-of_link bytes m Memory text is held = absurd held
+-- what is told of a link of what some bytes describe, is so of the bytes
+pub text-of_link : (IsTold : World → Bytes → Type 0) (bytes : Bytes) (m : Described) (s : Status) (text : Bytes) → manifest_of bytes ≡ Ok m
+    → IsWorldText (world_of_manifest m) (IsTold (world_of_manifest m)) s text → IsTextOf IsTold bytes s text
+text-of_link IsTold bytes m Linked text is held = (m, is, held)
+text-of_link IsTold bytes m Refused text is (cause, told, line) = (m, cause, is, told, line)
+text-of_link IsTold bytes m Usage text is held = absurd held
+text-of_link IsTold bytes m Manifest text is held = absurd held
+text-of_link IsTold bytes m ReadFault text is held = absurd held
+text-of_link IsTold bytes m WriteFault text is held = absurd held
+text-of_link IsTold bytes m Memory text is held = absurd held
 
 -- such a status comes of bytes that were read
 abbrev pub IsAnswer : Status → Type 0
@@ -50,14 +51,14 @@ IsAnswer WriteFault = ⊥
 IsAnswer Memory = ⊥
 
 -- of a link only these come
-link-answers : (bytes : Bytes) (s : Status) (text : Bytes) → IsTextOf bytes s text → IsAnswer s
-link-answers bytes Linked text held = tt
-link-answers bytes Refused text held = tt
-link-answers bytes Manifest text held = tt
-link-answers bytes Usage text held = held
-link-answers bytes ReadFault text held = held
-link-answers bytes WriteFault text held = held
-link-answers bytes Memory text held = held
+link-answers : (IsTold : World → Bytes → Type 0) (bytes : Bytes) (s : Status) (text : Bytes) → IsTextOf IsTold bytes s text → IsAnswer s
+link-answers IsTold bytes Linked text held = tt
+link-answers IsTold bytes Refused text held = tt
+link-answers IsTold bytes Manifest text held = tt
+link-answers IsTold bytes Usage text held = held
+link-answers IsTold bytes ReadFault text held = held
+link-answers IsTold bytes WriteFault text held = held
+link-answers IsTold bytes Memory text held = held
 
 refused-answers : (cause : Option Bytes) (text : Bytes) → IsAnswer (refused_or cause text).0
 refused-answers None text = tt
@@ -76,7 +77,8 @@ verdef-answers : (bytes : Bytes) (s : Status) (text : Bytes) → IsVerdefOf byte
 verdef-answers bytes s text held = subst (λ (ending : Status × Bytes). IsAnswer ending.0) held (ending-answers (manifest_of bytes))
 
 answers-read : (reading : Reading) (bytes : Bytes) (s : Status) (text : Bytes) → text_read reading bytes s text → IsAnswer s
-answers-read (asked.Link workers) bytes s text held = link-answers bytes s text held
+answers-read (asked.Link workers) bytes s text held = link-answers IsReport bytes s text held
+answers-read (asked.Why workers) bytes s text held = link-answers IsWhyReport bytes s text held
 answers-read asked.Verdef bytes s text held = verdef-answers bytes s text held
 
 -- bytes that were read end with no fault of reading
@@ -104,12 +106,9 @@ words-text words left Linked text held = inl held
 words-text words left Refused text held = held
 words-text words left Manifest text held = held
 words-text words left ReadFault text held = held
-words-text words left Usage text (inl held) = absurd held.1
-words-text words left Usage text (inr held) = absurd held.1
-words-text words left WriteFault text (inl held) = absurd held.1
-words-text words left WriteFault text (inr held) = absurd held.1
-words-text words left Memory text (inl held) = absurd held.1
-words-text words left Memory text (inr held) = absurd held.1
+words-text words left Usage text held = absurd held.2
+words-text words left WriteFault text held = absurd held.2
+words-text words left Memory text held = absurd held.2
 
 -- so does the summary of a made-up link
 pub bulk-text : (words : List Bytes) (left : Option Bytes) (members : ℕ) (s : Status) (text : Bytes) → IsBulk words members → (s ≡ Linked) × IsSummary members text → IsTextFor words left s text
@@ -117,7 +116,7 @@ bulk-text words left members s text bulk (ends, held) = subst (λ t. IsTextFor w
 
 -- a made-up link is not refused, so that it ends with its summary
 pub summary-of : (members : ℕ) (s : Status) (text : Bytes) → 1 ≤ members → members ≤ 100000
-    → IsWorldText (bulk_world members) (told_text (Summary members) (bulk_objects members)) s text → (s ≡ Linked) × IsSummary members text
+    → IsWorldText (bulk_world members) (IsToldOf (bulk_world members) (told_text (Summary members) (bulk_objects members))) s text → (s ≡ Linked) × IsSummary members text
 summary-of members Linked text some few held = (refl, held)
 summary-of members Refused text some few (cause, (error, refused, told), line) = absurd (not-refused members error some few refused)
 summary-of members Usage text some few held = absurd held
@@ -127,14 +126,14 @@ summary-of members WriteFault text some few held = absurd held
 summary-of members Memory text some few held = absurd held
 
 -- a link that stands ends with what is told of it
-pub linked-text : (w : World) (tell : Answer → Bytes) (linked : Answer) (s : Status) (text : Bytes) → IsLinked w linked → s ≡ Linked → text ≡ tell linked → IsWorldText w tell s text
-linked-text w tell linked s text is ends line = subst (λ t. IsWorldText w tell t text) (sym ends) (linked, is, line)
+pub linked-text : (w : World) (tell : Answer → Bytes) (linked : Answer) (s : Status) (text : Bytes) → IsLinked w linked → s ≡ Linked → text ≡ tell linked → IsWorldText w (IsToldOf w tell) s text
+linked-text w tell linked s text is ends line = subst (λ t. IsWorldText w (IsToldOf w tell) t text) (sym ends) (linked, is, line)
 
 -- a refused link ends with the text of its cause
-pub refused-text : (w : World) (tell : Answer → Bytes) (e : LinkError) (s : Status) (text : Bytes) → IsRefused w e ⊎ (e ≡ refusal.Memory) → e ≢ refusal.Memory → s ≡ Refused
-    → text ≡ error_line (refusal_text e) → IsWorldText w tell s text
-refused-text w tell e s text (inl refused) cause ends line = subst (λ t. IsWorldText w tell t text) (sym ends) (refusal_text e, (e, refused, refl), line)
-refused-text w tell e s text (inr memory) cause ends line = absurd (cause memory)
+pub refused-text : (w : World) (IsTold : Bytes → Type 0) (e : LinkError) (s : Status) (text : Bytes) → IsRefused w e ⊎ (e ≡ refusal.Memory) → e ≢ refusal.Memory → s ≡ Refused
+    → text ≡ error_line (refusal_text e) → IsWorldText w IsTold s text
+refused-text w IsTold e s text (inl refused) cause ends line = subst (λ t. IsWorldText w IsTold t text) (sym ends) (refusal_text e, (e, refused, refl), line)
+refused-text w IsTold e s text (inr memory) cause ends line = absurd (cause memory)
 
 -- what follows from three facts of an answer holds of it
 pub ok-through : {X E : Type 0} (r : Result X E) (P Q R S : X → Type 0) → ((x : X) → P x → Q x → R x → S x) → IfOk r P → IfOk r Q → IfOk r R → IfOk r S

@@ -5,20 +5,31 @@ use Rattle.std.specs.Prelude.{decimal}
 use Rattle.link_manifest_bulk.specs.Bulk.{bulk_objects}
 use Rattle.link_manifest_bulk.specs.World.{bulk_world}
 use Rattle.link_rules.specs.Linked.{Linked as Answer}
-use Rattle.link_rules.specs.Answer.{IsRefused, IsReport, IsRefusalText}
+use Rattle.link_rules.specs.declared.explanation.Explanation.{Explanation}
+use Rattle.link_rules.specs.Answer.{IsLinked, IsRefused, IsReport, IsRefusalText}
+use Rattle.link_rules.specs.Explained.{Explains}
+use Rattle.link_rules.specs.FoundRoots.{found_roots}
+use Rattle.link_rules.specs.Selection.{Selection}
+use Rattle.link_rules.specs.World.{Stage, World, start_of}
+use Rattle.link_rules.proofs.AllRoots.{passes-once}
+use Rattle.link_rules.proofs.Explaining.{one-explanation}
 use Rattle.link_rules.proofs.WorldOnce.{one-linked, one-report, one-refusal_text, not-both}
 use Rattle.link_manifest.specs.declared.fault.ManifestFault.{ManifestFault}
 use Rattle.link_manifest.specs.declared.manifest.Manifest.{Manifest as Described}
 use Rattle.link_manifest.specs.FaultText.{fault_text}
 use Rattle.link_manifest.specs.Manifest.{manifest_of}
-use Rattle.link_program.specs.declared.command.Command.TheVariants.{Link, Bulk, Verdef}
+use Rattle.link_program.specs.declared.command.Command.TheVariants.{Bulk}
+use Rattle.link_program.specs.declared.run.Reading.{Reading}
+use Rattle.link_program.specs.declared.run.Reading.TheVariants as asked
 use Rattle.link_program.specs.declared.status.Status.{Status}
 use Rattle.link_program.specs.declared.status.Status.TheVariants.{Linked, Refused, Usage, Manifest, ReadFault, WriteFault, Memory}
-use Rattle.link_program.specs.Grammar.{IsBulk, IsLink, IsNoCommand, IsVerdef, ReadsManifest}
+use Rattle.link_program.specs.Grammar.{IsBulk, IsNoCommand, IsReading, ReadsManifest, command_read}
 use Rattle.link_program.specs.Described.{error_line, world_of_manifest}
-use Rattle.link_program.specs.Outcome.{IsDue, IsReadText, IsSummary, IsSummaryFor, IsTextFor, IsTextOf, IsTextRead, IsWholeText}
+use Rattle.link_program.specs.Outcome.{IsDue, IsReadText, IsSummary, IsSummaryFor, IsTextFor, IsTextOf, IsTextRead, IsWholeText, text_read}
 use Rattle.link_program.specs.Verdef.{IsVerdefOf}
+use Rattle.link_program.specs.Why.{IsWhyReport}
 use Rattle.link_report.specs.Summary.{summary_text}
+use Rattle.link_report.specs.Why.{name_at, version_at, why_text}
 use Rattle.link_program.proofs.Numerals.{decimal-one}
 
 ok-inj : {X E : Type 0} (r : Result X E) (x y : X) → r ≡ Ok x → r ≡ Ok y → x ≡ y
@@ -33,56 +44,68 @@ ok-not_err r x e is is' = cc
 same-manifest : (bytes : Bytes) (m n : Described) → manifest_of bytes ≡ Ok m → manifest_of bytes ≡ Ok n → m ≡ n
 same-manifest bytes m n reads reads' = ok-inj (manifest_of bytes) m n reads reads'
 
-report-one : (bytes a b : Bytes) → IsTextOf bytes Linked a → IsTextOf bytes Linked b → a ≡ b
-report-one bytes a b (m, is, held) (n, is', held') =
-    one-report (world_of_manifest m) a b held (subst (λ (k : Described). IsReport (world_of_manifest k) b) (same-manifest bytes n m is' is) held')
+-- what is told of a link that isn't refused
+module _ (IsTold : World → Bytes → Type 0) (one : (w : World) (a b : Bytes) → IsTold w a → IsTold w b → a ≡ b) (answered : (w : World) (a : Bytes) → IsTold w a → (linked : Answer) × IsLinked w linked) where
+  told-one : (bytes a b : Bytes) → IsTextOf IsTold bytes Linked a → IsTextOf IsTold bytes Linked b → a ≡ b
+  told-one bytes a b (m, is, held) (n, is', held') =
+      one (world_of_manifest m) a b held (subst (λ (k : Described). IsTold (world_of_manifest k) b) (same-manifest bytes n m is' is) held')
 
-refusal-one : (bytes a b : Bytes) → IsTextOf bytes Refused a → IsTextOf bytes Refused b → a ≡ b
-refusal-one bytes a b (m, cause, is, told, line) (n, cause', is', told', line') =
-    let same = subst (λ (k : Described). IsRefusalText (world_of_manifest k) cause') (same-manifest bytes n m is' is) told' in
-    line ∙ ap error_line (one-refusal_text (world_of_manifest m) cause cause' told same) ∙ sym line'
+  refusal-one : (bytes a b : Bytes) → IsTextOf IsTold bytes Refused a → IsTextOf IsTold bytes Refused b → a ≡ b
+  refusal-one bytes a b (m, cause, is, told, line) (n, cause', is', told', line') =
+      let same = subst (λ (k : Described). IsRefusalText (world_of_manifest k) cause') (same-manifest bytes n m is' is) told' in
+      line ∙ ap error_line (one-refusal_text (world_of_manifest m) cause cause' told same) ∙ sym line'
 
-fault-one : (bytes a b : Bytes) → IsTextOf bytes Manifest a → IsTextOf bytes Manifest b → a ≡ b
-fault-one bytes a b (fault, fails, line) (fault', fails', line') =
-    line ∙ ap (λ (f : ManifestFault). error_line (codes "manifest: " ++ fault_text f)) (err-inj (manifest_of bytes) fault fault' fails fails') ∙ sym line'
+  fault-one : (bytes a b : Bytes) → IsTextOf IsTold bytes Manifest a → IsTextOf IsTold bytes Manifest b → a ≡ b
+  fault-one bytes a b (fault, fails, line) (fault', fails', line') =
+      line ∙ ap (λ (f : ManifestFault). error_line (codes "manifest: " ++ fault_text f)) (err-inj (manifest_of bytes) fault fault' fails fails') ∙ sym line'
 
-linked-not_refused : (bytes a b : Bytes) → IsTextOf bytes Linked a → IsTextOf bytes Refused b → ⊥
-linked-not_refused bytes a b (m, is, (linked, done, shown)) (n, cause, is', (error, refused, told), line) =
-    not-both (world_of_manifest m) linked error done (subst (λ (k : Described). IsRefused (world_of_manifest k) error) (same-manifest bytes n m is' is) refused)
+  linked-not_refused : (bytes a b : Bytes) → IsTextOf IsTold bytes Linked a → IsTextOf IsTold bytes Refused b → ⊥
+  linked-not_refused bytes a b (m, is, held) (n, cause, is', (error, refused, told), line) =
+      let it = answered (world_of_manifest m) a held in
+      not-both (world_of_manifest m) it.0 error it.1 (subst (λ (k : Described). IsRefused (world_of_manifest k) error) (same-manifest bytes n m is' is) refused)
 
-linked-reads : (bytes a b : Bytes) → IsTextOf bytes Linked a → IsTextOf bytes Manifest b → ⊥
-linked-reads bytes a b (m, reads, held) (fault, fails, line) = ok-not_err (manifest_of bytes) m fault reads fails
+  linked-reads : (bytes a b : Bytes) → IsTextOf IsTold bytes Linked a → IsTextOf IsTold bytes Manifest b → ⊥
+  linked-reads bytes a b (m, reads, held) (fault, fails, line) = ok-not_err (manifest_of bytes) m fault reads fails
 
-refused-reads : (bytes a b : Bytes) → IsTextOf bytes Refused a → IsTextOf bytes Manifest b → ⊥
-refused-reads bytes a b (m, cause, reads, held, line) (fault, fails, line') = ok-not_err (manifest_of bytes) m fault reads fails
+  refused-reads : (bytes a b : Bytes) → IsTextOf IsTold bytes Refused a → IsTextOf IsTold bytes Manifest b → ⊥
+  refused-reads bytes a b (m, cause, reads, held, line) (fault, fails, line') = ok-not_err (manifest_of bytes) m fault reads fails
 
--- some bytes have one status and one text
-one-text : (bytes : Bytes) (s t : Status) (a b : Bytes) → IsTextOf bytes s a → IsTextOf bytes t b → (s ≡ t) × (a ≡ b)
-one-text bytes Linked Linked a b held held' = (refl, report-one bytes a b held held')
-one-text bytes Linked Refused a b held held' = absurd (linked-not_refused bytes a b held held')
-one-text bytes Linked Manifest a b held held' = absurd (linked-reads bytes a b held held')
-one-text bytes Refused Linked a b held held' = absurd (linked-not_refused bytes b a held' held)
-one-text bytes Refused Refused a b held held' = (refl, refusal-one bytes a b held held')
-one-text bytes Refused Manifest a b held held' = absurd (refused-reads bytes a b held held')
-one-text bytes Manifest Linked a b held held' = absurd (linked-reads bytes b a held' held)
-one-text bytes Manifest Refused a b held held' = absurd (refused-reads bytes b a held' held)
-one-text bytes Manifest Manifest a b held held' = (refl, fault-one bytes a b held held')
-one-text bytes Usage t a b held held' = absurd held
-one-text bytes ReadFault t a b held held' = absurd held
-one-text bytes WriteFault t a b held held' = absurd held
-one-text bytes Memory t a b held held' = absurd held
-one-text bytes Linked Usage a b held held' = absurd held'
-one-text bytes Linked ReadFault a b held held' = absurd held'
-one-text bytes Linked WriteFault a b held held' = absurd held'
-one-text bytes Linked Memory a b held held' = absurd held'
-one-text bytes Refused Usage a b held held' = absurd held'
-one-text bytes Refused ReadFault a b held held' = absurd held'
-one-text bytes Refused WriteFault a b held held' = absurd held'
-one-text bytes Refused Memory a b held held' = absurd held'
-one-text bytes Manifest Usage a b held held' = absurd held'
-one-text bytes Manifest ReadFault a b held held' = absurd held'
-one-text bytes Manifest WriteFault a b held held' = absurd held'
-one-text bytes Manifest Memory a b held held' = absurd held'
+  -- some bytes have one status and one text
+  one-text : (bytes : Bytes) (s t : Status) (a b : Bytes) → IsTextOf IsTold bytes s a → IsTextOf IsTold bytes t b → (s ≡ t) × (a ≡ b)
+  one-text bytes Linked Linked a b held held' = (refl, told-one bytes a b held held')
+  one-text bytes Linked Refused a b held held' = absurd (linked-not_refused bytes a b held held')
+  one-text bytes Linked Manifest a b held held' = absurd (linked-reads bytes a b held held')
+  one-text bytes Refused Linked a b held held' = absurd (linked-not_refused bytes b a held' held)
+  one-text bytes Refused Refused a b held held' = (refl, refusal-one bytes a b held held')
+  one-text bytes Refused Manifest a b held held' = absurd (refused-reads bytes a b held held')
+  one-text bytes Manifest Linked a b held held' = absurd (linked-reads bytes b a held' held)
+  one-text bytes Manifest Refused a b held held' = absurd (refused-reads bytes b a held' held)
+  one-text bytes Manifest Manifest a b held held' = (refl, fault-one bytes a b held held')
+  one-text bytes Usage t a b held held' = absurd held
+  one-text bytes ReadFault t a b held held' = absurd held
+  one-text bytes WriteFault t a b held held' = absurd held
+  one-text bytes Memory t a b held held' = absurd held
+  one-text bytes Linked Usage a b held held' = absurd held'
+  one-text bytes Linked ReadFault a b held held' = absurd held'
+  one-text bytes Linked WriteFault a b held held' = absurd held'
+  one-text bytes Linked Memory a b held held' = absurd held'
+  one-text bytes Refused Usage a b held held' = absurd held'
+  one-text bytes Refused ReadFault a b held held' = absurd held'
+  one-text bytes Refused WriteFault a b held held' = absurd held'
+  one-text bytes Refused Memory a b held held' = absurd held'
+  one-text bytes Manifest Usage a b held held' = absurd held'
+  one-text bytes Manifest ReadFault a b held held' = absurd held'
+  one-text bytes Manifest WriteFault a b held held' = absurd held'
+  one-text bytes Manifest Memory a b held held' = absurd held'
+
+-- a link has one explanation, and so one text of it
+why-one : (w : World) (a b : Bytes) → IsWhyReport w a → IsWhyReport w b → a ≡ b
+why-one w a b (linked, done, (ws, l, e, passes, is, line)) (linked', done', (vs, k, e', passes', is', line')) =
+    let same = passes-once (start_of w) w.first w.later ws vs l k passes passes' in
+    let explained = subst (λ (x : Selection). Explains x (found_roots ws x.stage) e') (sym same.1) (subst (λ (xs : List Stage). Explains k (found_roots xs k.stage) e') (sym same.0) is') in
+    let one = one-explanation l (found_roots ws l.stage) e e' is explained in
+    let text : Selection → Explanation → Bytes = λ x y. why_text (name_at x.stage.symbols) (version_at x.stage.symbols) y in
+    line ∙ (ap (text l) one ∙ (ap (λ (x : Selection). text x e') same.1 ∙ sym line'))
 
 -- and end `verdef` in one way
 one-verdef : (bytes : Bytes) (s t : Status) (a b : Bytes) → IsVerdefOf bytes s a → IsVerdefOf bytes t b → (s ≡ t) × (a ≡ b)
@@ -129,32 +152,43 @@ summary-one words a b (m, is, (linked, done, shown)) (n, is', held') =
 -- ---- words
 
 reads-is_command : (words : List Bytes) → ReadsManifest words → IsNoCommand words → ⊥
-reads-is_command words (inl link) none = none (Link link.0) link.1
-reads-is_command words (inr verdef) none = none Verdef verdef
+reads-is_command words (reading, is) none = none (command_read reading) is
 
 bulk-is_command : (words : List Bytes) (n : ℕ) → IsBulk words n → IsNoCommand words → ⊥
 bulk-is_command words n (workers, is) none = none (Bulk n workers) is
 
 reads-not_bulk : (words : List Bytes) (n : ℕ) → ReadsManifest words → IsBulk words n → ⊥
-reads-not_bulk words n (inl (workers, is)) (workers', is') = let same = is.0 in let same' = is'.0 in cc
-reads-not_bulk words n (inr is) (workers', is') = let same = is.0 in let same' = is'.0 in cc
-
-link-not_verdef : (words : List Bytes) → IsLink words → IsVerdef words → ⊥
-link-not_verdef words (workers, is) is' = let same = is.0 in let same' = is'.0 in cc
+reads-not_bulk words n (asked.Link w, is) (workers', is') = let same = is.0 in let same' = is'.0 in cc
+reads-not_bulk words n (asked.Why w, is) (workers', is') = let same = is.0 in let same' = is'.0 in cc
+reads-not_bulk words n (asked.Verdef, is) (workers', is') = let same = is.0 in let same' = is'.0 in cc
 
 reads-of : (words : List Bytes) (left : Option Bytes) (s : Status) (text : Bytes) → IsTextRead words left s text → ReadsManifest words
-reads-of words left s text (inl held) = inl held.0
-reads-of words left s text (inr held) = inr held.0
+reads-of words left s text held = (held.0, held.1)
+
+-- what is said of bytes for what is asked of a manifest has one status and one text
+one-of : (reading : Reading) → IsOne (text_read reading)
+one-of (asked.Link workers) = one-text IsReport one-report (λ w a held. (held.0, held.1))
+one-of (asked.Why workers) = one-text IsWhyReport why-one (λ w a held. (held.0, held.1))
+one-of asked.Verdef = one-verdef
+
+-- the words ask for one text
+same-reading : (words : List Bytes) (r q : Reading) → IsReading words r → IsReading words q → (bytes : Bytes) (s : Status) (text : Bytes) → text_read q bytes s text → text_read r bytes s text
+same-reading words (asked.Link n) (asked.Link m) is is' bytes s text held = held
+same-reading words (asked.Why n) (asked.Why m) is is' bytes s text held = held
+same-reading words asked.Verdef asked.Verdef is is' bytes s text held = held
+same-reading words (asked.Link n) (asked.Why m) is is' bytes s text held = let same = is.0 in let same' = is'.0 in absurd cc
+same-reading words (asked.Why n) (asked.Link m) is is' bytes s text held = let same = is.0 in let same' = is'.0 in absurd cc
+same-reading words (asked.Link n) asked.Verdef is is' bytes s text held = let same = is.0 in let same' = is'.0 in absurd cc
+same-reading words (asked.Why n) asked.Verdef is is' bytes s text held = let same = is.0 in let same' = is'.0 in absurd cc
+same-reading words asked.Verdef (asked.Link m) is is' bytes s text held = let same = is.0 in let same' = is'.0 in absurd cc
+same-reading words asked.Verdef (asked.Why m) is is' bytes s text held = let same = is.0 in let same' = is'.0 in absurd cc
 
 -- the words and a source that tells have one status and one text, where the source doesn't fail
 one-read : (words : List Bytes) (left : Option Bytes) (s t : Status) (a b : Bytes) → IsSome left → (s ≡ ReadFault → ⊥) → (t ≡ ReadFault → ⊥)
     → IsTextRead words left s a → IsTextRead words left t b → (t ≡ s) × (b ≡ a)
-one-read words left s t a b tells no_fault no_fault' (inl held) (inl held') =
-    whole-text IsTextOf one-text left t s b a tells (read-whole IsTextOf left t b no_fault' held'.1) (read-whole IsTextOf left s a no_fault held.1)
-one-read words left s t a b tells no_fault no_fault' (inr held) (inr held') =
-    whole-text IsVerdefOf one-verdef left t s b a tells (read-whole IsVerdefOf left t b no_fault' held'.1) (read-whole IsVerdefOf left s a no_fault held.1)
-one-read words left s t a b tells no_fault no_fault' (inl held) (inr held') = absurd (link-not_verdef words held.0 held'.0)
-one-read words left s t a b tells no_fault no_fault' (inr held) (inl held') = absurd (link-not_verdef words held'.0 held.0)
+one-read words left s t a b tells no_fault no_fault' (r, is, held) (q, is', held') =
+    let whole' = read-whole (text_read q) left t b no_fault' held' in
+    whole-text (text_read r) (one-of r) left t s b a tells (whole'.0, whole'.1, same-reading words r q is is' whole'.0 t b whole'.2) (read-whole (text_read r) left s a no_fault held)
 
 due-read : (words : List Bytes) (left : Option Bytes) (s t : Status) (a b : Bytes) → IsDue words left s a → (t ≡ ReadFault → ⊥) → IsTextRead words left t b → (t ≡ s) × (b ≡ a)
 due-read words left Linked t a b (inl due) no_fault held = one-read words left Linked t a b due.0 (λ e. cc) no_fault due.1 held

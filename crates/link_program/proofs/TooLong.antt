@@ -30,6 +30,7 @@ read-too_long bytes fault over is = rw (lt-ltb (2 ^ 28) (length bytes) over, is)
 pub fault-read : (reading : Reading) (bytes : Bytes) (fault : ManifestFault) (text : Bytes) → manifest_of bytes ≡ Err fault → text ≡ error_line (codes "manifest: " ++ fault_text fault)
     → text_read reading bytes Manifest text
 fault-read (asked.Link workers) bytes fault text fails line = (fault, fails, line)
+fault-read (asked.Why workers) bytes fault text fails line = (fault, fails, line)
 fault-read asked.Verdef bytes fault text fails line = ap manifest_ending fails ∙ ap (λ (t : Bytes). (Manifest, t)) (sym line)
 
 text-too_long : (reading : Reading) (left : Option Bytes) (fault : ManifestFault) (text : Bytes) → IfSome left (λ all. 2 ^ 28 < length all) → fault ≡ fault_here TooLong

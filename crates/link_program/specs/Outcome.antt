@@ -21,9 +21,9 @@ use Rattle.link_program.specs.declared.run.Told.TheVariants.{Report, Summary}
 use Rattle.link_program.specs.declared.status.Status.{Status}
 use Rattle.link_program.specs.declared.status.Status.TheVariants.{Linked, Refused, Usage, Manifest, ReadFault, WriteFault, Memory}
 use Rattle.link_program.specs.Described.{error_line, world_of_manifest}
-use Rattle.link_program.specs.declared.command.Command.TheVariants.{Link, Verdef}
-use Rattle.link_program.specs.Grammar.{IsBulk, IsInRange, IsLink, IsNoCommand, IsVerdef}
+use Rattle.link_program.specs.Grammar.{IsBulk, IsInRange, IsNoCommand, IsReading, command_read}
 use Rattle.link_program.specs.Verdef.{IsVerdefOf}
+use Rattle.link_program.specs.Why.{IsWhyReport}
 
 -- the number that the program ends with
 abbrev pub status_number : Status → ℕ
@@ -35,32 +35,36 @@ status_number ReadFault = 4
 status_number WriteFault = 5
 status_number Memory = 6
 
--- the text of a link of what these bytes describe, by the status
-abbrev pub IsTextOf : Bytes → Status → Bytes → Type 0
-IsTextOf bytes Linked text = (m : Described) × (manifest_of bytes ≡ Ok m) × IsReport (world_of_manifest m) text
-IsTextOf bytes Refused text =
+-- the text of a link of what these bytes describe, by the status; where the link isn't refused, so much is told of the world
+abbrev pub IsTextOf : (World → Bytes → Type 0) → Bytes → Status → Bytes → Type 0
+IsTextOf IsTold bytes Linked text = (m : Described) × (manifest_of bytes ≡ Ok m) × IsTold (world_of_manifest m) text
+IsTextOf IsTold bytes Refused text =
     (m : Described) × (cause : Bytes) × (manifest_of bytes ≡ Ok m) × IsRefusalText (world_of_manifest m) cause × (text ≡ error_line cause)
-IsTextOf bytes Manifest text =
+IsTextOf IsTold bytes Manifest text =
     (fault : ManifestFault) × (manifest_of bytes ≡ Err fault) × (text ≡ error_line (codes "manifest: " ++ fault_text fault))
-IsTextOf bytes Usage text = ⊥
-IsTextOf bytes ReadFault text = ⊥
-IsTextOf bytes WriteFault text = ⊥
-IsTextOf bytes Memory text = ⊥
+IsTextOf IsTold bytes Usage text = ⊥
+IsTextOf IsTold bytes ReadFault text = ⊥
+IsTextOf IsTold bytes WriteFault text = ⊥
+IsTextOf IsTold bytes Memory text = ⊥
 
 -- what is told of a link with these objects
 abbrev pub told_text : Told → List ObjectFile → Answer → Bytes
 told_text Report objects linked = report_text linked
 told_text (Summary members) objects linked = summary_text members objects linked
 
--- the text of a link of a world, of which so much is told, by the status
-abbrev pub IsWorldText : World → (Answer → Bytes) → Status → Bytes → Type 0
-IsWorldText w tell Linked text = (linked : Answer) × IsLinked w linked × (text ≡ tell linked)
-IsWorldText w tell Refused text = (cause : Bytes) × IsRefusalText w cause × (text ≡ error_line cause)
-IsWorldText w tell Manifest text = ⊥
-IsWorldText w tell Usage text = ⊥
-IsWorldText w tell ReadFault text = ⊥
-IsWorldText w tell WriteFault text = ⊥
-IsWorldText w tell Memory text = ⊥
+-- it is told of the answer of a link of the world
+abbrev pub IsToldOf : World → (Answer → Bytes) → Bytes → Type 0
+IsToldOf w tell text = (linked : Answer) × IsLinked w linked × (text ≡ tell linked)
+
+-- the text of a link of a world, by the status; where the link isn't refused, this is so of it
+abbrev pub IsWorldText : World → (Bytes → Type 0) → Status → Bytes → Type 0
+IsWorldText w IsTold Linked text = IsTold text
+IsWorldText w IsTold Refused text = (cause : Bytes) × IsRefusalText w cause × (text ≡ error_line cause)
+IsWorldText w IsTold Manifest text = ⊥
+IsWorldText w IsTold Usage text = ⊥
+IsWorldText w IsTold ReadFault text = ⊥
+IsWorldText w IsTold WriteFault text = ⊥
+IsWorldText w IsTold Memory text = ⊥
 
 -- the summary of a link of the made-up world of so many members
 abbrev pub IsSummary : ℕ → Bytes → Type 0
@@ -86,17 +90,17 @@ IsReadText IsOf left Memory text = ⊥
 
 -- the text that is asked for, of bytes that are read
 abbrev pub text_read : Reading → Bytes → Status → Bytes → Type 0
-text_read (asked.Link workers) = IsTextOf
+text_read (asked.Link workers) = IsTextOf IsReport
+text_read (asked.Why workers) = IsTextOf IsWhyReport
 text_read asked.Verdef = IsVerdefOf
 
 -- its number is in its range
 abbrev pub IsReadingInRange : Reading → Type 0
-IsReadingInRange (asked.Link workers) = IsInRange (Link workers)
-IsReadingInRange asked.Verdef = IsInRange Verdef
+IsReadingInRange reading = IsInRange (command_read reading)
 
--- the text of a link, or of version definitions, where the words ask for that
+-- the text that is asked for, where the words ask for something that reads a manifest
 abbrev pub IsTextRead : List Bytes → Option Bytes → Status → Bytes → Type 0
-IsTextRead words left status text = (IsLink words × IsReadText IsTextOf left status text) ⊎ (IsVerdef words × IsReadText IsVerdefOf left status text)
+IsTextRead words left status text = (reading : Reading) × IsReading words reading × IsReadText (text_read reading) left status text
 
 -- the text for these words and what the source has left, by the status
 abbrev pub IsTextFor : List Bytes → Option Bytes → Status → Bytes → Type 0

@@ -16,6 +16,8 @@ pub enum Command {
     Link { workers: usize },
     /// `bulk N W`: a made-up world of so many archive members is linked, by so many workers.
     Bulk { members: usize, workers: usize },
+    /// `why W`: they are linked so, and why each object is loaded is written.
+    Why { workers: usize },
     /// `verdef`: the version definitions that the manifest's version script makes are written.
     Verdef,
 }
@@ -30,6 +32,10 @@ pub fn command_of(words: &[Word]) -> Option<Command>
         [name, workers] if name.as_str() == "link" => {
             let workers = number_of(workers, MAX_WORKERS)?;
             Some(Command::Link { workers })
+        }
+        [name, workers] if name.as_str() == "why" => {
+            let workers = number_of(workers, MAX_WORKERS)?;
+            Some(Command::Why { workers })
         }
         [name, members, workers] if name.as_str() == "bulk" => {
             let members = number_of(members, MAX_MEMBERS)?;

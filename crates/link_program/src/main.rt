@@ -1,5 +1,6 @@
 //! Links the objects of a manifest: `link W` reads it from standard input, and writes to standard
-//! output which objects are loaded and what each symbol means. `verdef` writes the version definitions
+//! output which objects are loaded and what each symbol means. `why W` reads it too, and writes why each
+//! object is loaded and which of several definitions counts. `verdef` writes the version definitions
 //! that the manifest's version script makes. `bulk N W` links a made-up world, and sums up what that
 //! gives.
 #![tactic(auto)]
@@ -12,6 +13,7 @@ mod status;
 #[cfg(test)]
 mod tests;
 mod verdef;
+mod why;
 mod word;
 
 use arguments::run_with_arguments;

@@ -13,12 +13,13 @@ ghost use Rattle.link_rules.specs.World.{world_of};
 ghost use Rattle.link_program_streams.specs.Streams.{IsAtEnd, IsCalledAtMost, GivesAtMost, Takes, Rose};
 ghost use Rattle.link_program.specs.Grammar.{IsInRange, ReadsManifest, ReadsNothing};
 ghost use Rattle.link_program.specs.Described.{given_of, objects_given, world_of_manifest};
-ghost use Rattle.link_program.specs.Outcome.{IsCutShort, IsDue, IsOfWholeSource, IsReadText, IsReadingInRange, IsSummary, IsTextFor, IsWorldText, IsWritten, ReadsAll, text_read, told_text};
+ghost use Rattle.link_program.specs.Outcome.{IsCutShort, IsDue, IsOfWholeSource, IsReadText, IsReadingInRange, IsSummary, IsTextFor, IsToldOf, IsWorldText, IsWritten, ReadsAll, text_read, told_text};
 
 use crate::answer::{Answer, error_answer, fault_answer, refusal_answer};
 use crate::command::{Command, command_of};
 use crate::status::Status;
 use crate::verdef::verdef_of_manifest;
+use crate::why::why_of_manifest;
 use crate::word::Word;
 use link_claim::OpenGate;
 use link_core::link_batches;
@@ -39,6 +40,7 @@ use std::thread::Threads;
 #[derive(Clone, Copy, Debug, PartialEq, Eq)]
 pub enum Reading {
     Link { workers: usize },
+    Why { workers: usize },
     Verdef,
 }
 
@@ -51,9 +53,10 @@ pub enum Told {
 }
 
 /// Runs the command that the words write, and writes its answer to the sink. `link` reads what the
-/// source has left as a manifest, and reports what a link of it gives; `verdef` reads it too, and
-/// writes the version definitions that its version script makes; `bulk` reads nothing, and sums up
-/// what a link of a made-up world gives.
+/// source has left as a manifest, and reports what a link of it gives; `why` reads and links it as
+/// `link` does, and writes why each object is loaded and which of several definitions counts;
+/// `verdef` reads it too, and writes the version definitions that its version script makes; `bulk`
+/// reads nothing, and sums up what a link of a made-up world gives.
 ///
 /// For every manifest and every number of workers the report that is written is exactly the one
 /// that the rules of a link give, and a link is refused exactly with the first cause that the
@@ -120,6 +123,9 @@ fn answer_to<R: Threads + Sync, S: Source>(
         Some(Command::Link { workers }) => {
             answer_to_source(rt, alloc, Reading::Link { workers }, source)
         }
+        Some(Command::Why { workers }) => {
+            answer_to_source(rt, alloc, Reading::Why { workers }, source)
+        }
         Some(Command::Bulk { members, workers }) => answer_to_bulk(rt, alloc, members, workers),
         Some(Command::Verdef) => answer_to_source(rt, alloc, Reading::Verdef, source),
         None => error_answer(alloc, Status::Usage, b"usage"),
@@ -170,6 +176,7 @@ fn answer_to_bytes<R: Threads + Sync>(
             Reading::Link { workers } => {
                 answer_to_manifest(rt, alloc, workers, Told::Report, manifest)
             }
+            Reading::Why { workers } => why_of_manifest(rt, alloc, workers, manifest),
             Reading::Verdef => verdef_of_manifest(alloc, manifest),
         },
         Err(ManifestError::At(fault)) => fault_answer(alloc, &fault),
@@ -202,7 +209,8 @@ fn answer_to_manifest<R: Threads + Sync>(
     requires in_range { IsInRange (Command.Link workers) }
     requires group_size { HasGroupSize manifest }
     requires few { HasFewBatches manifest }
-    ensures { IfOk result (λ a. IsWorldText (world_of_manifest manifest) (told_text told (objects_given (given_of manifest))) a.status a.text.items) }
+    ensures { let w = world_of_manifest manifest in
+        IfOk result (λ a. IsWorldText w (IsToldOf w (told_text told (objects_given (given_of manifest)))) a.status a.text.items) }
 {
     match manifest {
         Manifest::Elf(world) => answer_to_world(rt, alloc, workers, told, world),
@@ -211,7 +219,7 @@ fn answer_to_manifest<R: Threads + Sync>(
 }
 
 /// The first batch and those behind it, as one list.
-fn in_one_list<P: Platform>(
+pub(crate) fn in_one_list<P: Platform>(
     first: Inputs<P>,
     later: Seq<Inputs<P>>,
 ) -> Result<Vec<Inputs<P>>, AllocError>
@@ -235,7 +243,8 @@ fn answer_to_world<R: Threads + Sync, P: Platform + Sync>(
     requires group_size { IsGroupSize world.options.files_per_group }
     requires few { length world.later ≤ 255 }
     ensures { let given = given_in_batches (batch_of world.inputs) (map batch_of world.later) world.options world.scripts in
-        IfOk result (λ a. IsWorldText (world_of (platform_of P.Platform) (λ name. name) given) (told_text told (objects_given given)) a.status a.text.items) }
+        let w = world_of (platform_of P.Platform) (λ name. name) given in
+        IfOk result (λ a. IsWorldText w (IsToldOf w (told_text told (objects_given given))) a.status a.text.items) }
 {
     let World {
         inputs,

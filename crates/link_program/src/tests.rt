@@ -62,6 +62,15 @@ strings 006c005600
         Status::Manifest,
         "error: manifest: soname: missing\n",
     ),
+    (
+        "why 2",
+        ARCHIVE,
+        Status::Linked,
+        "why 0 required
+why 1 symbol 2 of 0
+why 2 symbol 5 of 1
+",
+    ),
     ("", ARCHIVE, Status::Usage, "error: usage\n"),
     ("link \u{661}", ARCHIVE, Status::Usage, "error: usage\n"),
     (

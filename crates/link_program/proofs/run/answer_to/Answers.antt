@@ -1,6 +1,7 @@
-use Rattle.std.proofs.Common.{refl, subst, inl, inr}
+use Rattle.std.proofs.Common.{refl, subst}
 use Rattle.link_program_streams.proofs.Flow.{gives-at_most_nothing}
 use Rattle.link_program.specs.declared.command.Command.{Command}
+use Rattle.link_program.specs.declared.run.Reading.TheVariants.{Link, Verdef, Why}
 use Rattle.link_program.specs.Grammar.{IsCommand}
 use Rattle.link_program.proofs.OfWorld.{bulk-text, words-text, ok-into}
 use Rattle.link_program.proofs.run.answer_to.Goals as goal
@@ -8,13 +9,19 @@ use Rattle.link_program.proofs.run.answer_to.Goals as goal
 pub returns-in-Some-Link-clause-text : goal.returns-in-Some-Link-clause-text
 returns-in-Some-Link-clause-text g c =
     ok-into c.answer_to_source.result _ _ (λ a held. words-text c.args.words.now (g.S.Source.left c.args.source.now) a.status a.text.items
-    (inl ((c.in-Some-Link.workers, subst (λ (k : Command). IsCommand c.args.words.now k) c.in-Some-Link.field-0-is c.in-Some-Link.ensures.command), held)))
+    (Link c.in-Some-Link.workers, subst (λ (k : Command). IsCommand c.args.words.now k) c.in-Some-Link.field-0-is c.in-Some-Link.ensures.command, held))
     c.answer_to_source.ensures.text
+
+pub returns-in-Some-Why-clause-text : goal.returns-in-Some-Why-clause-text
+returns-in-Some-Why-clause-text g c =
+    ok-into c.answer_to_source-in-Some-Why.result _ _ (λ a held. words-text c.args.words.now (g.S.Source.left c.args.source.now) a.status a.text.items
+    (Why c.in-Some-Why.workers, subst (λ (k : Command). IsCommand c.args.words.now k) c.in-Some-Why.field-0-is c.in-Some-Why.ensures.command, held))
+    c.answer_to_source-in-Some-Why.ensures.text
 
 pub returns-in-Some-Verdef-clause-text : goal.returns-in-Some-Verdef-clause-text
 returns-in-Some-Verdef-clause-text g c =
     ok-into c.answer_to_source-in-Some-Verdef.result _ _ (λ a held. words-text c.args.words.now (g.S.Source.left c.args.source.now) a.status a.text.items
-    (inr (subst (λ (k : Command). IsCommand c.args.words.now k) c.in-Some-Verdef.field-0-is c.in-Some-Verdef.ensures.command, held)))
+    (Verdef, subst (λ (k : Command). IsCommand c.args.words.now k) c.in-Some-Verdef.field-0-is c.in-Some-Verdef.ensures.command, held))
     c.answer_to_source-in-Some-Verdef.ensures.text
 
 pub returns-in-Some-Bulk-clause-text : goal.returns-in-Some-Bulk-clause-text

@@ -1,15 +1,21 @@
 use Rattle.std.proofs.Common.{◌≡◌, Err, sym, ap, subst, ◌∙◌}
 use Rattle.link_manifest.specs.Manifest.{manifest_of}
+use Rattle.link_rules.specs.Answer.{IsReport}
 use Rattle.link_program.specs.declared.status.Status.{Status}
 use Rattle.link_program.specs.Outcome.{text_read}
 use Rattle.link_program.specs.Verdef.{manifest_ending}
+use Rattle.link_program.specs.Why.{IsWhyReport}
 use Rattle.link_program.proofs.OfWorld.{text-of_link, ok-into}
 use Rattle.link_program.proofs.TooLong.{fault-read, ok-along}
 use Rattle.link_program.proofs.run.answer_to_bytes.Goals as goal
 
 pub returns-in-Link : goal.returns-in-Link
 returns-in-Link g c = rw c.in-Link.is
-    (ok-into c.answer_to_manifest.result _ _ (λ a held. text-of_link c.args.bytes.now c.in-Ok.manifest a.status a.text.items c.in-Ok.ensures.manifest held) c.answer_to_manifest.ensures)
+    (ok-into c.answer_to_manifest.result _ _ (λ a held. text-of_link IsReport c.args.bytes.now c.in-Ok.manifest a.status a.text.items c.in-Ok.ensures.manifest held) c.answer_to_manifest.ensures)
+
+pub returns-in-Why : goal.returns-in-Why
+returns-in-Why g c = rw c.in-Why.is
+    (ok-into c.why_of_manifest.result _ _ (λ a held. text-of_link IsWhyReport c.args.bytes.now c.in-Ok.manifest a.status a.text.items c.in-Ok.ensures.manifest held) c.why_of_manifest.ensures)
 
 pub returns-in-Verdef : goal.returns-in-Verdef
 returns-in-Verdef g c = rw c.in-Verdef.is

@@ -10,7 +10,7 @@ use Rattle.link_rules.specs.World.{Given, World, world_of}
 use Rattle.link_core.specs.Given.{given_in_batches}
 use Rattle.link_core.specs.Results.{IsRefusedFor, LinksTo}
 use Rattle.link_program.specs.Described.{objects_given}
-use Rattle.link_program.specs.Outcome.{told_text}
+use Rattle.link_program.specs.Outcome.{IsToldOf, told_text}
 use Rattle.link_program.proofs.OfWorld.{linked-text, ok-through, refused-text}
 use Rattle.link_program.proofs.run.answer_to_world.Goals as goal
 
@@ -30,7 +30,7 @@ returns-in-Err g c =
     let w : World = world_of (platform_of g.P.Platform) (λ name. name) given in
     let all = ap (λ (xs : List _). map batch_of xs) c.in_ok-batches.ensures in
     let refused = subst (λ (bs : List Batch). IsRefusedFor (platform_of g.P.Platform) (λ name. name) world.options world.scripts bs c.in-Err.error ⊎ (c.in-Err.error ≡ Memory)) all c.in-Err.ensures.refused in
-    ok-through c.refusal_answer.result _ _ _ _ (λ a cause status line. refused-text w (told_text c.args.told (objects_given given)) c.in-Err.error a.status a.text.items
+    ok-through c.refusal_answer.result _ _ _ _ (λ a cause status line. refused-text w (IsToldOf w (told_text c.args.told (objects_given given))) c.in-Err.error a.status a.text.items
     refused cause status line)
     c.refusal_answer.ensures.cause c.refusal_answer.ensures.status c.refusal_answer.ensures.text
 
