@@ -100,6 +100,19 @@ def has_static_libraries():
     return all(os.path.isabs(path) for path in found)
 
 
+def links_at_hand():
+    """The links whose tools and libraries are there."""
+    return LINKS + (CLANG_LINKS if shutil.which("clang") else []) + (STATIC_LINKS if has_static_libraries() else [])
+
+
+def program_of(words):
+    """The program that words name, with its path, or the usual one."""
+    program = [os.path.abspath(word) if os.path.exists(word) else word for word in words] or [str(PROGRAM)]
+    if shutil.which(program[0]) is None:
+        sys.exit(f"{program[0]} is no program: `rt run` in crates/link_program builds one")
+    return program
+
+
 def check_link(program, name, words, inside, outside):
     """Compares one link, and tells what differs; answers whether nothing does."""
     words = words_of_compiler(shlex.split(words.format(c=HERE / "c")))
@@ -118,9 +131,7 @@ def main():
     if sys.argv[1:] in (["-h"], ["--help"]):
         print(__doc__.strip())
         return 0
-    program = [os.path.abspath(word) if os.path.exists(word) else word for word in sys.argv[1:]] or [str(PROGRAM)]
-    if shutil.which(program[0]) is None:
-        sys.exit(f"{program[0]} is no program: `rt run` in crates/link_program builds one")
+    program = program_of(sys.argv[1:])
     missing = [tool for tool in TOOLS if shutil.which(tool) is None]
     if not missing and "GNU ld" not in subprocess.run(["ld", "--version"], capture_output=True, text=True).stdout:
         missing = ["GNU ld"]
@@ -130,9 +141,8 @@ def main():
     with tempfile.TemporaryDirectory() as folder:
         os.chdir(folder)
         build()
-        links = LINKS + (CLANG_LINKS if shutil.which("clang") else []) + (STATIC_LINKS if has_static_libraries() else [])
         try:
-            results = [check_link(program, *link) for link in links] + linkers.check(program) + verdef.check(program)
+            results = [check_link(program, *link) for link in links_at_hand()] + linkers.check(program) + verdef.check(program)
         except Fault as fault:
             sys.exit(f"error: {fault}")
         os.chdir("/")

@@ -25,13 +25,15 @@ NO_MANIFEST, NOT_BUILT, INTERRUPTED = 7, 125, 130
 
 HELP = """wolzhyke: which files a link loads, and which definition each symbol means
 
-    ./wolzhyke files [W] -- LINKER WORDS    from object files, archives and shared objects to a report
-    ./wolzhyke link [W] < MANIFEST          from a manifest (JSON) to a report
-    ./wolzhyke verdef < MANIFEST            the version definitions that its version script makes
-    ./wolzhyke bulk N [W]                   the summary of a made-up link of N archive members, 1 to 100000
-    ./wolzhyke prove                        proves the program, and runs the proved one from then on
-    ./wolzhyke --help, -h, help             this text
-    ./wolzhyke --version                    the version, and which program would run
+    ./wolzhyke files [W] -- LINKER WORDS         from object files, archives and shared objects to a report
+    ./wolzhyke files [W] --why -- LINKER WORDS   why each of them is loaded, and which definition of a name counts
+    ./wolzhyke link [W] < MANIFEST               from a manifest (JSON) to a report
+    ./wolzhyke why [W] < MANIFEST                why each object is loaded, and which definition of a name counts
+    ./wolzhyke verdef < MANIFEST                 the version definitions that its version script makes
+    ./wolzhyke bulk N [W]                        the summary of a made-up link of N archive members, 1 to 100000
+    ./wolzhyke prove                             proves the program, and runs the proved one from then on
+    ./wolzhyke --help, -h, help                  this text
+    ./wolzhyke --version                         the version, and which program would run
 
 W is the number of workers, 1 to 256; without it there are as many as processors. LINKER WORDS are those of ld.
 `cc -### ..` prints the words that a compiler gives to it, and `--from-cc cc ..` in their place asks the compiler for
@@ -119,7 +121,8 @@ def workers():
 
 def with_workers(words):
     """The words with the number of workers that they leave out."""
-    left_out = words == ["link"] or words[:1] == ["bulk"] and len(words) == 2 or words[:2] == ["files", "--"]
+    left_out = words in (["link"], ["why"]) or words[:1] == ["bulk"] and len(words) == 2
+    left_out = left_out or words[:2] == ["files", "--"] or words[:3] == ["files", "--why", "--"]
     if not left_out:
         return words
     at = 2 if words[0] == "bulk" else 1
@@ -132,12 +135,16 @@ def is_command(words):
         return len(words) == 3 and is_count(words[1], MOST_MEMBERS) and is_count(words[2], MOST_WORKERS)
     if words == ["verdef"]:
         return True
-    return are_files(words) or words[:1] == ["link"] and len(words) == 2 and is_count(words[1], MOST_WORKERS)
+    is_link = words[:1] in (["link"], ["why"]) and len(words) == 2 and is_count(words[1], MOST_WORKERS)
+    return is_link or of_files(words) is not None
 
 
-def are_files(words):
-    """Whether the words make a manifest first."""
-    return words[:1] == ["files"] and len(words) > 2 and words[2] == "--" and is_count(words[1], MOST_WORKERS)
+def of_files(words):
+    """What the program does with a manifest that is made first, and the linker's words that it is made of; None of other words."""
+    if words[:1] != ["files"] or len(words) < 3 or not is_count(words[1], MOST_WORKERS):
+        return None
+    command, rest = ("why", words[3:]) if words[2] == "--why" else ("link", words[2:])
+    return (command, rest[1:]) if rest[:1] == ["--"] else None
 
 
 def is_count(word, most):
@@ -160,11 +167,13 @@ def run(words):
     if not is_command(words):
         tell("wolzhyke: `./wolzhyke --help` says which words there are\n")
         return say("error: usage\n") or NO_COMMAND
-    if are_files(words):
-        if ask_for_help(words[3:]):
+    files = of_files(words)
+    if files is not None:
+        command, linker_words = files
+        if ask_for_help(linker_words):
             return say(HELP)
         try:
-            manifest = manifest_of(words[3:])
+            manifest = manifest_of(linker_words)
         except OSError as reason:
             tell(f"error: manifest: {reason.strerror}\n")
             manifest = None
@@ -173,7 +182,7 @@ def run(words):
         os.dup2(manifest.fileno(), 0)
         # Where standard input was closed, the file is there already, and would be closed with this program.
         os.set_inheritable(0, True)
-        words = ["link", words[1]]
+        words = [command, words[1]]
     path = program()
     os.execv(path, [path, *words])
     return NOT_BUILT

@@ -1,0 +1,1 @@
+"""What `why` writes, and pictures of it."""
