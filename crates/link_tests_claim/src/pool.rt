@@ -20,6 +20,8 @@ struct Scattered {
     files: usize,
     roots: usize,
     chain: bool,
+    // How many items were read.
+    reads: AtomicU64,
     // How often the file of an item was asked.
     looks: AtomicU64,
     // How often the items of a file were asked, and which of these calls tells none, so that the hint of the file's item is lost.
@@ -40,6 +42,7 @@ impl Scattered {
             files,
             roots,
             chain,
+            reads: AtomicU64::new(0),
             looks: AtomicU64::new(0),
             calls: AtomicU64::new(0),
             lost: None,
@@ -141,6 +144,7 @@ impl Readable for Scattered {
     }
 
     fn read(&self, _alloc: Global, item: usize) -> Result<usize, AllocError> {
+        self.reads.fetch_add(1, Ordering::SeqCst);
         Ok(item * 3 + 1)
     }
 
@@ -384,6 +388,61 @@ fn meet<R: Threads + Sync>(rt: &R, alloc: Global) -> Result<(bool, u64, u64, u64
 #[test]
 fn four_threads_meet(rt: HostRuntime) -> Result<(), Fail> {
     assert_eq!(rt; meet(&rt, rt.alloc())?, (true, 4, 4, 0));
+    Ok(())
+}
+
+/// It counts the items that pass it, and the calls that come at a wrong moment, where items are read one after another.
+#[derive(Drop)]
+struct Watching<'a> {
+    plan: &'a Scattered,
+    read: AtomicU64,
+    wrong: AtomicU64,
+}
+
+impl Watching<'_> {
+    /// Counts a call, unless just so many items were read so far.
+    fn note(&self, wanted: u64) {
+        if self.plan.reads.load(Ordering::SeqCst) != wanted {
+            self.wrong.fetch_add(1, Ordering::SeqCst);
+        }
+    }
+}
+
+impl Gate for Watching<'_> {
+    fn before(&self, _item: usize) {
+        self.note(self.read.load(Ordering::SeqCst));
+    }
+
+    fn after(&self, _item: usize) {
+        let before = self.read.fetch_add(1, Ordering::SeqCst);
+        self.note(before.saturating_add(1));
+    }
+}
+
+/// How many items of a chain so many threads read, and how many calls of the gate came at a wrong moment.
+fn watch<R: Threads + Sync>(rt: &R, alloc: Global, workers: usize) -> Result<(u64, u64), AllocError>
+    requires some { 0 < workers }
+    requires most { workers ≤ 256 }
+{
+    let plan = Scattered::new(100, 1, true);
+    let gate = Watching {
+        plan: &plan,
+        read: AtomicU64::new(0),
+        wrong: AtomicU64::new(0),
+    };
+    let _outcome = by_threads(rt, alloc, &gate, workers, &plan)?;
+    Ok((
+        gate.read.load(Ordering::SeqCst),
+        gate.wrong.load(Ordering::SeqCst),
+    ))
+}
+
+/// A chain's items are read one after another, whoever reads them.
+#[test]
+fn each_item_is_read_between_the_calls(rt: HostRuntime) -> Result<(), Fail> {
+    for workers in 1usize..4 {
+        assert_eq!(rt; watch(&rt, rt.alloc(), workers)?, (100, 0));
+    }
     Ok(())
 }
 
