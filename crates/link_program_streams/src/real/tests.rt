@@ -53,6 +53,8 @@ const INTERRUPTED: Turn = Turn::Fails(ErrorKind::Interrupted);
 
 const BROKEN: Turn = Turn::Fails(ErrorKind::BrokenPipe);
 
+const BLOCKED: Turn = Turn::Fails(ErrorKind::WouldBlock);
+
 /// What a call answers after these turns, which have a name: as a source, as a sink, and in how many turns.
 const ROWS: &[(&str, [Turn; 4], Option<usize>, Option<usize>, usize)] = &[
     (
@@ -75,6 +77,13 @@ const ROWS: &[(&str, [Turn; 4], Option<usize>, Option<usize>, usize)] = &[
         None,
         None,
         2,
+    ),
+    (
+        "it would have to wait",
+        [BLOCKED, Turn::Passes(2), BROKEN, BROKEN],
+        None,
+        None,
+        1,
     ),
     (
         "nothing comes",
