@@ -168,6 +168,7 @@ pub(crate) fn inputs_of(alloc: Global, shape: &Shape) -> Result<Inputs<ElfLike>,
 }
 
 /// The files of the made-up link in which each of so many members refers to the next one alone.
+/// Which they are is left to the tests that link them: no clause says it.
 pub(crate) fn chain_files(alloc: Global, members: usize) -> Result<Inputs<ElfLike>, AllocError>
     requires some { 1 ≤ members }
     requires in_range { members ≤ 100000 }

@@ -19,6 +19,7 @@ pub(crate) enum Has {
 }
 
 /// The name of a number.
+/// Which it is, is left to the tests that ask for it: no clause says it.
 pub(crate) fn name_of(alloc: Global, number: usize) -> Result<Name, AllocError> {
     Name::from_slice(alloc, number.to_le_bytes().as_slice())
 }
@@ -55,6 +56,7 @@ fn entries_of(alloc: Global, has: Has) -> Result<Seq<SymbolEntry>, AllocError> {
 }
 
 /// No file.
+/// What it holds is left to the tests that add it: no clause says it.
 pub(crate) fn nothing(alloc: Global) -> Inputs<ElfLike> {
     Inputs {
         objects: Seq::new(alloc),
@@ -64,6 +66,7 @@ pub(crate) fn nothing(alloc: Global) -> Inputs<ElfLike> {
 }
 
 /// One object, perhaps the member of an archive.
+/// What it holds is left to the tests that add it: no clause says it.
 pub(crate) fn batch_of(
     alloc: Global,
     archive: bool,

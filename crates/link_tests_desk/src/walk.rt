@@ -81,6 +81,7 @@ impl Seen {
 }
 
 /// Whether each call of a history of required objects is answered as it is by one caller, call after call.
+/// What it answers is left to the tests that assert it: no clause says it.
 pub(crate) fn is_as_one(alloc: Global, history: &[Entry]) -> Result<bool, AllocError> {
     let mut seen = Seen {
         definitions: Vec::new(alloc),

@@ -76,6 +76,7 @@ pub(crate) fn opened<L: Opening>(
 }
 
 /// Closes a desk.
+/// What it answers is left to the tests that assert it: no clause says it.
 pub(crate) fn closed<L: Opening>(
     desk: Desk<L>,
     passes: Vec<Pass<L>>,
@@ -159,6 +160,7 @@ fn gathered<L: Opening>(
 }
 
 /// Eight threads add batches and ask names; then the history is walked again.
+/// What it answers is left to the tests that assert it: no clause says it.
 pub(crate) fn together<L: Opening + Send + Sync, R: Threads + Wait + Sync>(
     rt: &R,
     alloc: Global,
@@ -188,6 +190,7 @@ pub(crate) fn together<L: Opening + Send + Sync, R: Threads + Wait + Sync>(
 }
 
 /// One caller adds batches and asks names, with little memory: a call that is refused is made again, and a batch for which the session lacks memory ends it.
+/// What it answers is left to the tests that assert it: no clause says it.
 pub(crate) fn alone<L: Opening, R: Threads + Wait + Sync>(
     rt: &R,
     alloc: Global,

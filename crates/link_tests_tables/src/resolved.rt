@@ -61,6 +61,7 @@ fn stubs(alloc: Global) -> Result<Seq<StubLibrary>, AllocError> {
 }
 
 /// Two regular objects, a shared one, a linker script and a stub library.
+/// What they hold is left to the tests that ask of them: no clause says it.
 pub fn inputs(alloc: Global) -> Result<Inputs<ElfLike>, Fail> {
     Ok(Inputs {
         objects: objects(alloc)?,
