@@ -113,6 +113,19 @@ def program_of(words):
     return program
 
 
+def where_built(check_links):
+    """What `check_links` answers in a folder of its own, where the files of the links are built."""
+    with tempfile.TemporaryDirectory() as folder:
+        os.chdir(folder)
+        try:
+            build()
+            return check_links()
+        except Fault as fault:
+            sys.exit(f"error: {fault}")
+        finally:
+            os.chdir("/")
+
+
 def check_link(program, name, words, inside, outside):
     """Compares one link, and tells what differs; answers whether nothing does."""
     words = words_of_compiler(shlex.split(words.format(c=HERE / "c")))
@@ -138,14 +151,9 @@ def main():
     if missing:
         print(f"examples/real: not run, since there is no {' and no '.join(missing)}")
         return 0
-    with tempfile.TemporaryDirectory() as folder:
-        os.chdir(folder)
-        build()
-        try:
-            results = [check_link(program, *link) for link in links_at_hand()] + linkers.check(program) + verdef.check(program)
-        except Fault as fault:
-            sys.exit(f"error: {fault}")
-        os.chdir("/")
+    results = where_built(
+        lambda: [check_link(program, *link) for link in links_at_hand()] + linkers.check(program) + verdef.check(program)
+    )
     print(f"examples/real: {len(results)} links, {results.count(False)} differ")
     return 1 if False in results else 0
 

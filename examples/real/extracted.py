@@ -30,7 +30,7 @@ import levels
 from explained.faults import Fault as Unreadable
 from explained.lines import Reference, Root, read_reasons
 from explained.names import Names
-from linker_inputs.faults import Fault, Warnings
+from linker_inputs.faults import Warnings
 from linker_inputs.main import manifest_of, words_of_compiler
 from linker_inputs.response_files import joined
 
@@ -133,14 +133,7 @@ def main():
     lld = has_lld()
     if not lld:
         print("examples/real: there is no lld that says why it extracts members, so the rules alone are compared")
-    with tempfile.TemporaryDirectory() as folder:
-        os.chdir(folder)
-        check.build()
-        try:
-            results = [check_link(program, name, words, lld) for name, words, _, _ in check.links_at_hand()]
-        except Fault as fault:
-            sys.exit(f"error: {fault}")
-        os.chdir("/")
+    results = check.where_built(lambda: [check_link(program, name, words, lld) for name, words, _, _ in check.links_at_hand()])
     print(f"examples/real: {len(results)} links explained, {results.count(False)} differ")
     return 1 if False in results else 0
 
