@@ -1,16 +1,16 @@
 #!/usr/bin/env python3
 """Runs a built program on generated commands beside an independent program, for a time, in slices that end by themselves.
 
-    tools/soak.py PROGRAM --cases 'COMMAND' [--seconds S] [--from SEED] [--seeds N] [--slice N] [--jobs J]
+    tools/soak.py PROGRAM --cases 'COMMAND' [--seconds S] [--from SEED] [--seeds N] [--slice N] [--jobs J] [--workers W,W,..]
 
 COMMAND FOLDER N SEED (the last three words are put behind it) writes the cases of N seeds from SEED on into a folder:
 for each one SEED.json, standard input; SEED.words, the words; SEED.status and SEED.out, the status and the bytes that
 are due, by a program that shares no code with the one that is tried. A slice is N of them (200 if not given). J slices
 (one a processor) run side by side, and for S seconds (60 if not given) new ones begin, until N seeds are done. Each
-case runs with its own words, and where these are `link W` with another number of workers too. Prints a line for each
-slice with its seeds, and at the end where to go on. A case whose status or bytes differ, that ends by a signal, or that
-takes more than a processor second, is told and left in soak_differs/; then the status is 1. It is fastest where TMPDIR
-is in memory.
+case runs with its own words, and where these end with a number of workers with another one too, or with each of those
+that --workers names. Prints a line for each slice with its seeds, and at the end where to go on. A case whose status or
+bytes differ, that ends by a signal, or that takes more than a processor second, is told and left in soak_differs/; then
+the status is 1. It is fastest where TMPDIR is in memory.
 """
 import argparse
 import concurrent.futures
@@ -27,13 +27,17 @@ import time
 # Processor seconds that a case may take. A whole number, since it is a limit of the system, by which a run is ended.
 SECONDS = 1
 WORKERS = (1, 3, 16)
+# The commands that end with a number of workers, which no byte depends on.
+BY_WORKERS = ("link", "why")
 
 
-def all_words(seed, words):
-    """The words, and where they link also those with another number of workers."""
-    yield words
-    if words.startswith("link "):
-        yield f"link {WORKERS[seed % len(WORKERS)]}"
+def all_words(seed, words, workers):
+    """The words, and where they end with a number of workers also those with each of these numbers, or with another one."""
+    command, _, number = words.partition(" ")
+    if command not in BY_WORKERS or not number.isdigit():
+        return [words]
+    others = workers or [WORKERS[seed % len(WORKERS)]]
+    return [words, *(f"{command} {other}" for other in others if str(other) != number)]
 
 
 def ran(program, words, stdin, stdout):
@@ -46,7 +50,7 @@ def ran(program, words, stdin, stdout):
     return status, stdout.read_bytes()
 
 
-def tried(program, cases, count, seed):
+def tried(program, cases, workers, count, seed):
     """Runs a slice. Answers which seeds and how many runs it was, how often each status came, and lines for what differs."""
     runs, statuses, differ = 0, {}, []
     with tempfile.TemporaryDirectory() as name:
@@ -54,7 +58,7 @@ def tried(program, cases, count, seed):
         subprocess.run([*cases, folder, str(count), str(seed)], check=True, stdout=subprocess.DEVNULL)
         for case in range(seed, seed + count):
             due = int((folder / f"{case}.status").read_text()), (folder / f"{case}.out").read_bytes()
-            for words in all_words(case, (folder / f"{case}.words").read_text()):
+            for words in all_words(case, (folder / f"{case}.words").read_text(), workers):
                 got = ran(program, words, folder / f"{case}.json", folder / "got")
                 runs += 1
                 statuses[got[0]] = statuses.get(got[0], 0) + 1
@@ -76,6 +80,7 @@ def main():
     reader.add_argument("--seeds", type=int, default=sys.maxsize)
     reader.add_argument("--slice", type=int, default=200)
     reader.add_argument("--jobs", type=int, default=os.cpu_count())
+    reader.add_argument("--workers", default=[], type=lambda text: [int(number) for number in text.split(",")])
     given = reader.parse_args()
     program, end = os.path.abspath(given.program), time.monotonic() + given.seconds
     seed, behind = given.first, given.first + given.seeds
@@ -84,7 +89,7 @@ def main():
         while True:
             while len(running) < given.jobs and seed < behind and time.monotonic() < end:
                 count = min(given.slice, behind - seed)
-                running.add(pool.submit(tried, program, given.cases, count, seed))
+                running.add(pool.submit(tried, program, given.cases, given.workers, count, seed))
                 seed += count
             if not running:
                 break
