@@ -1,1 +1,5 @@
+pub mod Gathered
+pub mod Heads
 pub mod Rooted
+pub mod Told
+pub mod Wraps

@@ -2,5 +2,12 @@
 #![tactic(auto)]
 
 mod explaining;
+mod gathering;
+mod heads;
+mod laws;
+mod listing;
+mod name_lists;
+mod wraps;
 
 pub use explaining::explain;
+pub use laws::{a_selection_is_told, a_settled_selection_is_told};

@@ -43,6 +43,33 @@ fn add_files<R: Threads + Sync>(
     Ok(())
 }
 
+/// A database with these options and the files of a link, which so many workers read.
+pub(crate) fn opened_with<R: Threads + Sync>(
+    rt: &R,
+    alloc: Global,
+    options: Options,
+    workers: usize,
+    flags: &mut PerSymbolFlags,
+    files: Inputs<ElfLike>,
+) -> Result<SymbolDb<ElfLike>, LinkError>
+    requires options { (1 ≤ options.files_per_group) × (options.files_per_group ≤ 256) }
+    requires workers { (1 ≤ workers) × (workers ≤ 256) }
+    requires flags { words_of flags.old ≡ [] }
+    ensures listed { IfOk result (λ db. IsListed (seen db)) }
+    ensures flags { IfOk result (λ db. length (words_of flags.new) ≡ length (symbol_names (seen db))) }
+{
+    let texts = Scripts {
+        version_script: None,
+        export_list: None,
+    };
+    let mut db = SymbolDb::new(alloc, options, &texts, workers)?;
+    // One arm alone lets the database go.
+    match add_files(rt, alloc, &mut db, flags, files) {
+        Ok(()) => Ok(db),
+        Err(error) => Err(error),
+    }
+}
+
 /// A database with the files of a link, which so many workers read.
 pub(crate) fn opened<R: Threads + Sync>(
     rt: &R,
@@ -56,16 +83,7 @@ pub(crate) fn opened<R: Threads + Sync>(
     ensures listed { IfOk result (λ db. IsListed (seen db)) }
     ensures flags { IfOk result (λ db. length (words_of flags.new) ≡ length (symbol_names (seen db))) }
 {
-    let texts = Scripts {
-        version_script: None,
-        export_list: None,
-    };
-    let mut db = SymbolDb::new(alloc, Options::new(alloc), &texts, workers)?;
-    // One arm alone lets the database go.
-    match add_files(rt, alloc, &mut db, flags, files) {
-        Ok(()) => Ok(db),
-        Err(error) => Err(error),
-    }
+    opened_with(rt, alloc, Options::new(alloc), workers, flags, files)
 }
 
 /// Loads the objects of a database by so many workers. How many requests references made.

@@ -4,6 +4,8 @@
 
 mod bench;
 #[cfg(test)]
+mod explanations;
+#[cfg(test)]
 mod gates;
 mod graphs;
 mod loading;

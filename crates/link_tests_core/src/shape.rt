@@ -99,14 +99,13 @@ fn entry(name: Name, binding: SymbolBinding, place: Place) -> SymbolEntry {
     }
 }
 
-/// The entry of a symbol.
-fn entry_of(alloc: Global, symbol: Symbol) -> Result<SymbolEntry, AllocError> {
-    let name = Name::from_slice(alloc, symbol.name.to_le_bytes().as_slice())?;
-    Ok(match symbol.kind {
+/// The entry of a symbol of this name.
+pub(crate) fn entry_of(name: Name, kind: Kind) -> SymbolEntry {
+    match kind {
         Kind::Reference => entry(name, SymbolBinding::Global, Place::Undefined),
         Kind::Definition => entry(name, SymbolBinding::Global, Place::Section(1)),
         Kind::WeakDefinition => entry(name, SymbolBinding::Weak, Place::Section(1)),
-    })
+    }
 }
 
 /// The section groups of an object: none, or a COMDAT group with the section 1 and the header 2, whose signature is the first symbol.
@@ -125,21 +124,48 @@ fn groups_of(alloc: Global, is_comdat: bool) -> Result<Seq<SectionGroup>, AllocE
     Ok(groups)
 }
 
-/// The symbol table of an object of three sections, behind a null entry.
-fn table_of(alloc: Global, symbols: &[Symbol], is_comdat: bool) -> Result<ObjectTable, AllocError> {
-    let mut entries = Vec::with_capacity(alloc, symbols.len().saturating_add(1))?;
+/// The null entry alone, with which each symbol table begins.
+pub(crate) fn null_entries(alloc: Global) -> Result<Vec<SymbolEntry>, AllocError> {
     let null = Name::new(Vec::new(alloc));
-    entries.push(entry(null, SymbolBinding::Local, Place::Undefined))?;
+    vec![in alloc; entry(null, SymbolBinding::Local, Place::Undefined)]
+}
+
+/// The symbol table of an object, behind a null entry.
+fn entries_of(alloc: Global, symbols: &[Symbol]) -> Result<Vec<SymbolEntry>, AllocError> {
+    let mut entries = null_entries(alloc)?;
     for symbol in symbols {
-        entries.push(entry_of(alloc, *symbol)?)?;
+        let name = Name::from_slice(alloc, symbol.name.to_le_bytes().as_slice())?;
+        entries.push(entry_of(name, symbol.kind))?;
     }
-    Ok(ObjectTable {
+    Ok(entries)
+}
+
+/// An object of three sections with this symbol table, which is an archive's member or stands by itself.
+/// What it holds is left open: what is loaded of it shows it.
+pub(crate) fn object_of(
+    alloc: Global,
+    entries: Vec<SymbolEntry>,
+    is_comdat: bool,
+    archive: bool,
+) -> Result<ParsedInputObject<ElfLike>, AllocError> {
+    let modifiers = Modifiers {
+        archive,
+        whole_archive: false,
+        as_needed: false,
+    };
+    let table = ObjectTable {
         is_dynamic: false,
         lib_name: Name::new(Vec::new(alloc)),
         sections: 3,
         symbols: Seq::from_vec(entries),
         groups: groups_of(alloc, is_comdat)?,
-    })
+    };
+    // Each table passes every check, so what is refused is want of memory.
+    let Ok(object) = InputObject::new(alloc, table) else {
+        return Err(AllocError);
+    };
+    let input = Name::from_slice(alloc, b"object")?;
+    Ok(ParsedInputObject::new(input, object, modifiers))
 }
 
 /// The files of a link.
@@ -147,18 +173,9 @@ fn table_of(alloc: Global, symbols: &[Symbol], is_comdat: bool) -> Result<Object
 pub(crate) fn inputs_of(alloc: Global, shape: &Shape) -> Result<Inputs<ElfLike>, AllocError> {
     let mut objects = Seq::new(alloc);
     for (place, symbols) in shape.objects.iter().enumerate() {
-        let modifiers = Modifiers {
-            archive: place >= shape.required,
-            whole_archive: false,
-            as_needed: false,
-        };
-        // Each table passes every check, so what is refused is want of memory.
-        let table = table_of(alloc, symbols, shape.is_comdat)?;
-        let Ok(object) = InputObject::new(alloc, table) else {
-            return Err(AllocError);
-        };
-        let input = Name::from_slice(alloc, b"object")?;
-        objects.push(ParsedInputObject::new(input, object, modifiers))?;
+        let entries = entries_of(alloc, symbols)?;
+        let archive = place >= shape.required;
+        objects.push(object_of(alloc, entries, shape.is_comdat, archive)?)?;
     }
     Ok(Inputs {
         objects,

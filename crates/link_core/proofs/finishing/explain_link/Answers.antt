@@ -2,6 +2,7 @@ use Rattle.std.proofs.Common.{ap, inr, refl, subst, sym}
 use Rattle.link_db.specs.Seen.{seen}
 use Rattle.link_db_texts.specs.Holds.{platform_of}
 use Rattle.link_resolve.specs.Known.{IsSelection, Known}
+use Rattle.link_resolve_explanation.proofs.Telling.{selection-told}
 use Rattle.link_rules.specs.declared.refusal.LinkError.TheVariants.{Memory}
 use Rattle.link_core.proofs.Passing.{refused-through}
 use Rattle.link_core.proofs.finishing.explain_link.Goals as goal
@@ -28,9 +29,11 @@ returns-clause-kept g c = λ w l loaded. c.in_ok-linked.ensures.kept w l (c.in_o
 pub returns-clause-linked : goal.returns-clause-linked
 returns-clause-linked g c = λ w l loaded. c.in_ok-linked.ensures.linked w l (c.in_ok-point_symbols.ensures.pointed (g.D.Demangler.demangled c.args.demangler.now) w l loaded)
 
--- it is explained as the rivals stand
+-- the database tells of the selection
 pub returns-clause-explained : goal.returns-clause-explained
 returns-clause-explained g c = λ w l loaded follows.
     let demangle = g.D.Demangler.demangled c.args.demangler.now in
     let pointed = c.in_ok-point_symbols.ensures.pointed demangle w l loaded in
-    c.in_ok-explanation.ensures demangle l (subst (λ (k : Known). IsSelection (platform_of g.P.Platform) demangle (seen c.point_symbols.new.db) k l) (sym c.resolved.ensures) pointed.selection) follows
+    c.in_ok-explanation.ensures l
+    (selection-told (platform_of g.P.Platform) demangle (seen c.point_symbols.new.db) c.resolved.result.now l
+    (subst (λ (k : Known). IsSelection (platform_of g.P.Platform) demangle (seen c.point_symbols.new.db) k l) (sym c.resolved.ensures) pointed.selection)) follows

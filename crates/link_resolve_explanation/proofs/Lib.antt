@@ -1,0 +1,5 @@
+pub mod CheckedHeads
+pub mod HeadedLists
+pub mod Naming
+pub mod Telling
+pub mod Wrapping
