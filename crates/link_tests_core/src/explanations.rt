@@ -92,7 +92,9 @@ fn options(alloc: Global) -> Result<Options, AllocError>
     ensures { IfOk result (λ options. (1 ≤ options.files_per_group) × (options.files_per_group ≤ 256)) }
 {
     let mut options = Options::new(alloc);
-    options.wrap.push(Name::from_slice(alloc, WRAPPED.as_bytes())?)?;
+    options
+        .wrap
+        .push(Name::from_slice(alloc, WRAPPED.as_bytes())?)?;
     Ok(options)
 }
 

@@ -127,7 +127,9 @@ fn groups_of(alloc: Global, is_comdat: bool) -> Result<Seq<SectionGroup>, AllocE
 /// The null entry alone, with which each symbol table begins.
 pub(crate) fn null_entries(alloc: Global) -> Result<Vec<SymbolEntry>, AllocError> {
     let null = Name::new(Vec::new(alloc));
-    vec![in alloc; entry(null, SymbolBinding::Local, Place::Undefined)]
+    let mut entries = Vec::new(alloc);
+    entries.push(entry(null, SymbolBinding::Local, Place::Undefined))?;
+    Ok(entries)
 }
 
 /// The symbol table of an object, behind a null entry.
