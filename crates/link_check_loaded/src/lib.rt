@@ -7,3 +7,4 @@ mod loaded;
 mod ranks;
 
 pub use loaded::are_loaded;
+pub use ranks::ranks_of;

@@ -1,0 +1,4 @@
+pub mod Differing
+pub mod Columns
+pub mod OneVerdict
+pub mod Steps

@@ -1,0 +1,4 @@
+mod Places
+mod FirstKept
+mod Listing
+mod Discarding

@@ -1,0 +1,3 @@
+mod OneList
+mod Heads
+mod Tables

@@ -1,0 +1,4 @@
+pub mod Told
+pub mod Forced
+pub mod Taken
+pub mod Causing

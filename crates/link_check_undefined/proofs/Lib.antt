@@ -1,0 +1,5 @@
+pub mod Noting
+pub mod Behind
+pub mod Lasting
+pub mod Told
+pub mod Final

@@ -1,0 +1,4 @@
+pub mod Columns
+pub mod Noted
+pub mod Made
+pub mod Told
