@@ -78,7 +78,7 @@ fn check_of_world<P: Platform>(
     ensures { let w = world_of (platform_of P.Platform) (λ name. name) (given_of world.now) in
         IfOk result (λ a. IsOfBatches w claim.now w.later (a.status, a.text.items)) }
 {
-    if !world.later.is_empty() {
+    if world.later.len() > 0 {
         return key_fault_answer(alloc, b"batches", Problem::NotWithClaim);
     }
     match check_claim(alloc, world, claim) {
