@@ -11,6 +11,7 @@ import subprocess
 import sys
 
 WORLDS = ["rows", "script_rows", "guard_rows", "rival_rows", "worlds", "batch_rows", "batch_worlds"]
+COMMANDS = ["command_rows", "claim_rows"]
 WORKERS = [1, 2, 7, 256]
 
 
@@ -27,9 +28,10 @@ def worked_examples(folder):
 
 def commands(folder):
     """Commands with their words, as `worked_examples`."""
-    for line in (folder / "command_rows.jsonl").read_text().splitlines():
-        row = json.loads(line)
-        yield row["name"], row["words"], row["stdin"], row["status"], row["stdout"]
+    for name in COMMANDS:
+        for line in (folder / f"{name}.jsonl").read_text().splitlines():
+            row = json.loads(line)
+            yield row["name"], row["words"], row["stdin"], row["status"], row["stdout"]
 
 
 def main():

@@ -21,7 +21,7 @@ MOST_WORKERS, MOST_MEMBERS = 256, 100000
 # Two statuses of the program, and those that are not its: no manifest can be made of the files, the program can't be built, and an
 # interrupt.
 NO_COMMAND, NOT_WRITTEN = 2, 5
-NO_MANIFEST, NOT_BUILT, INTERRUPTED = 7, 125, 130
+NO_MANIFEST, NOT_BUILT, INTERRUPTED = 8, 125, 130
 
 HELP = """wolzhyke: which files a link loads, and which definition each symbol means
 
@@ -29,6 +29,7 @@ HELP = """wolzhyke: which files a link loads, and which definition each symbol m
     ./wolzhyke files [W] --why -- LINKER WORDS   why each of them is loaded, and which definition of a name counts
     ./wolzhyke link [W] < MANIFEST               from a manifest (JSON) to a report
     ./wolzhyke why [W] < MANIFEST                why each object is loaded, and which definition of a name counts
+    ./wolzhyke check < MANIFEST                  whether an answer that the manifest claims is that of its link
     ./wolzhyke verdef < MANIFEST                 the version definitions that its version script makes
     ./wolzhyke bulk N [W]                        the summary of a made-up link of N archive members, 1 to 100000
     ./wolzhyke prove                             proves the program, and runs the proved one from then on
@@ -41,11 +42,12 @@ them. `tools/manifest --help` says more.
 
 The answer comes on standard output; a line `error: ..` in its place says why there is none.
 
-    0    answered                            5    standard output takes no more
-    1    the link or the script is refused   6    memory ran out
-    2    the words are no command            7    of these files no manifest can be made
+    0    answered                            6    memory ran out
+    1    the link or the script is refused   7    what is claimed isn't so
+    2    the words are no command            8    of these files no manifest can be made
     3    standard input is no manifest       125  the program can't be built, or isn't proved
     4    standard input can't be read        130  building was interrupted
+    5    standard output takes no more
 
 The first call builds the program in some two minutes, from the same sources and with run-time checks: an index out of
 range, a sum that overflows or the like ends it by a signal. Nothing is proved by that. `prove` has the checker prove
@@ -133,7 +135,7 @@ def is_command(words):
     """Whether the program takes the words, or they make a manifest first. So nothing is built for a word that is mistyped."""
     if words[:1] == ["bulk"]:
         return len(words) == 3 and is_count(words[1], MOST_MEMBERS) and is_count(words[2], MOST_WORKERS)
-    if words == ["verdef"]:
+    if words in (["check"], ["verdef"]):
         return True
     is_link = words[:1] in (["link"], ["why"]) and len(words) == 2 and is_count(words[1], MOST_WORKERS)
     return is_link or of_files(words) is not None

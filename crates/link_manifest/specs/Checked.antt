@@ -11,7 +11,8 @@ use Rattle.link_manifest.specs.declared.fault.ManifestFault.{ManifestFault}
 use Rattle.link_manifest.specs.declared.contents.Contents.{Contents}
 use Rattle.link_manifest.specs.declared.contents.UncheckedBatch.{UncheckedBatch}
 use Rattle.link_manifest.specs.declared.manifest.Manifest.{Manifest}
-use Rattle.link_manifest.specs.declared.manifest.Manifest.TheVariants.{Elf, Mach}
+use Rattle.link_manifest.specs.declared.manifest.PlatformWorld.{PlatformWorld}
+use Rattle.link_manifest.specs.declared.manifest.PlatformWorld.TheVariants.{Elf, Mach}
 use Rattle.link_manifest.specs.Reading.{fault_here, within, and_read}
 
 -- ---- custom sections
@@ -74,8 +75,8 @@ contents_checked has_null contents =
 
 -- ---- what holds of every manifest
 
--- the options of a manifest, whatever its platform
-abbrev pub options_of : Manifest → Options
+-- the options of a world, whatever its platform
+abbrev pub options_of : PlatformWorld → Options
 options_of (Elf world) = world.options
 options_of (Mach world) = world.options
 
@@ -89,17 +90,17 @@ AreDistinct names = AllPairs (λ name later. name ≢ later) names
 
 -- at most how many files are to be one group is a number from 1 to 256
 abbrev pub HasGroupSize : Manifest → Type 0
-HasGroupSize manifest = IsGroupSize (options_of manifest).files_per_group
+HasGroupSize manifest = IsGroupSize (options_of manifest.world).files_per_group
 
 -- no two custom sections have the same name
 abbrev pub HasDistinctSections : Manifest → Type 0
-HasDistinctSections manifest = AreDistinct (options_of manifest).custom_sections
+HasDistinctSections manifest = AreDistinct (options_of manifest.world).custom_sections
 
--- how many batches come behind the first one of a manifest
-abbrev pub later_count : Manifest → ℕ
+-- how many batches come behind the first one of a world
+abbrev pub later_count : PlatformWorld → ℕ
 later_count (Elf world) = length world.later
 later_count (Mach world) = length world.later
 
 -- they are no more than 255
 abbrev pub HasFewBatches : Manifest → Type 0
-HasFewBatches manifest = later_count manifest ≤ 255
+HasFewBatches manifest = later_count manifest.world ≤ 255

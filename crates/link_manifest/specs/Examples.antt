@@ -1,5 +1,6 @@
 -- Small manifests, for worked examples.
-use Rattle.std.specs.Prelude.{ℕ, List, [], ◌∷◌, true, false, None}
+use Rattle.std.specs.Prelude.{ℕ, List, [], ◌∷◌, true, false, None, Some}
+use Rattle.link_check_claims.specs.declared.claim.Claim.{Claim}
 use Rattle.link_flags.specs.declared.visibility.Visibility.TheVariants.{Default}
 use Rattle.link_input.specs.declared.object.SectionGroup.{SectionGroup}
 use Rattle.link_input.specs.declared.options.Options.{Options}
@@ -14,7 +15,7 @@ use Rattle.link_input.specs.Defaults.{default_options}
 use Rattle.link_manifest.specs.declared.contents.Contents.{Contents}
 use Rattle.link_manifest.specs.declared.contents.UncheckedBatch.{UncheckedBatch}
 use Rattle.link_manifest.specs.declared.manifest.Manifest.{Manifest}
-use Rattle.link_manifest.specs.declared.manifest.Manifest.TheVariants.{Elf}
+use Rattle.link_manifest.specs.declared.manifest.PlatformWorld.TheVariants.{Elf, Mach}
 use Rattle.link_manifest.specs.Manifest.{world_of}
 
 -- a global symbol that is plain in all else
@@ -36,6 +37,7 @@ of_objects options objects = record {
   texts = record { version_script = None; export_list = None };
   first = record { objects = objects; scripts = []; stubs = [] };
   later = [];
+  claim = None;
 }
 
 -- options alone
@@ -50,6 +52,14 @@ of_libraries script stub = record (of_options default_options) { first = record 
 abbrev pub of_batches : List UncheckedBatch → Contents
 of_batches later = record (of_options default_options) { later = later }
 
+-- options and a claim alone
+abbrev pub of_claim : Options → Claim → Contents
+of_claim options claim = record (of_options options) { claim = Some claim }
+
 -- what is linked for a platform like ELF
 abbrev pub elf_manifest : Contents → Manifest
-elf_manifest contents = Elf (world_of contents)
+elf_manifest contents = record { world = Elf (world_of contents); claim = contents.claim }
+
+-- what is linked for one like Mach-O
+abbrev pub mach_manifest : Contents → Manifest
+mach_manifest contents = record { world = Mach (world_of contents); claim = contents.claim }

@@ -8,7 +8,7 @@ use Rattle.link_manifest.specs.declared.fault.Step.TheVariants.{Key, Item}
 use Rattle.link_manifest.specs.declared.fault.Kind.{Kind}
 use Rattle.link_manifest.specs.declared.fault.Kind.TheVariants.{Object, List as a_list, Text, Bytes, Bool, Number, Word, Place}
 use Rattle.link_manifest.specs.declared.fault.Problem.{Problem}
-use Rattle.link_manifest.specs.declared.fault.Problem.TheVariants.{TooLong, NotJson, UnknownKey, Missing, Expected, Repeated, TooMany, Table}
+use Rattle.link_manifest.specs.declared.fault.Problem.TheVariants.{TooLong, NotJson, UnknownKey, Missing, Expected, Repeated, TooMany, NotWithClaim, Table}
 use Rattle.link_manifest.specs.declared.fault.ManifestFault.{ManifestFault}
 
 -- what a value has to be
@@ -31,6 +31,7 @@ problem_text Missing = codes "missing"
 problem_text (Expected kind) = codes "expected " ++ kind_text kind
 problem_text Repeated = codes "repeated"
 problem_text TooMany = codes "too many"
+problem_text NotWithClaim = codes "not with a claim"
 problem_text (Table error) = table_error_text error
 
 -- the first step of a path

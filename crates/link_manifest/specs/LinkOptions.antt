@@ -1,6 +1,7 @@
 -- The options that a manifest gives: their keys at the root, in the order in which they are walked.
-use Rattle.std.specs.Prelude.{ℕ, List, [], ◌∷◌, false, None, Result, Ok, codes}
+use Rattle.std.specs.Prelude.{ℕ, List, [], ◌∷◌, false, Option, None, Result, Ok, codes}
 use Rattle.serde_json.specs.Data.{Data}
+use Rattle.link_check_claims.specs.declared.claim.Claim.{Claim}
 use Rattle.link_input.specs.declared.internal_symbols.InternalSymDefInfo.{InternalSymDefInfo}
 use Rattle.link_input.specs.declared.internal_symbols.SymbolPlacement.{SymbolPlacement}
 use Rattle.link_input.specs.declared.internal_symbols.SymbolPlacement.TheVariants as at
@@ -11,6 +12,7 @@ use Rattle.link_script_syntax.specs.declared.profile.ScriptProfile.TheVariants.{
 use Rattle.link_manifest.specs.declared.words.PlacementName.{PlacementName}
 use Rattle.link_manifest.specs.declared.words.PlacementName.TheVariants as placement
 use Rattle.link_manifest.specs.declared.fault.ManifestFault.{ManifestFault}
+use Rattle.link_manifest.specs.Claims.{claim_read}
 use Rattle.link_manifest.specs.Reading.{and_read, object_of_keys, required, optional, or_null, list_read}
 use Rattle.link_manifest.specs.Values.{bytes_read, bool_read, number_read, group_size_read, profile_read}
 use Rattle.link_manifest.specs.Words.{word_read, output_words, placement_words}
@@ -68,12 +70,13 @@ options_read value =
       soname = None;
     }))))))))))))
 
--- these options with those of the keys behind the files
-abbrev pub later_options_read : Options → Data → Result Options ManifestFault
-later_options_read options value =
+-- these options with those of the keys behind the files, and the claim, whose key stands between those
+abbrev pub later_keys_read : Options → Data → Result (Options × Option Claim) ManifestFault
+later_keys_read options value =
     and_read (optional (codes "script_profile") profile_read Wild value) (λ profile.
+    and_read (optional (codes "claim") (or_null claim_read) None value) (λ claim.
     and_read (optional (codes "soname") (or_null bytes_read) None value) (λ soname.
-    Ok (record options { script_profile = profile; soname = soname })))
+    Ok (record options { script_profile = profile; soname = soname }, claim))))
 
 -- the texts of the version script and of the export list
 abbrev pub texts_read : Data → Result Scripts ManifestFault

@@ -1,5 +1,6 @@
 //! What a manifest says, before any table of it is checked; no platform stands in its type.
 
+use link_check_claims::Claim;
 use link_input::{Modifiers, ObjectTable, Options, ProcessedLinkerScript, Scripts, StubLibrary};
 use link_names::{Name, Seq};
 use std::marker::Model;
@@ -36,4 +37,5 @@ pub(crate) struct Contents {
     /// The files of the first batch, which stand at the root itself.
     pub(crate) first: UncheckedBatch,
     pub(crate) later: Seq<UncheckedBatch>,
+    pub(crate) claim: Option<Claim>,
 }

@@ -57,6 +57,8 @@ pub enum Problem {
     Repeated,
     /// More batches come behind the first one than 255.
     TooMany,
+    /// Batches come behind the first one beside a claim, which speaks of one batch.
+    NotWithClaim,
     /// The table of an object fails a check, and this is the first.
     Table(TableError),
 }
@@ -128,6 +130,7 @@ impl fmt::Display for Problem {
             Problem::Expected(kind) => write!(f, "expected {kind}"),
             Problem::Repeated => f.write_str("repeated"),
             Problem::TooMany => f.write_str("too many"),
+            Problem::NotWithClaim => f.write_str("not with a claim"),
             Problem::Table(error) => write!(f, "{error}"),
         }
     }

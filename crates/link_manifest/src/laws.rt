@@ -2,14 +2,13 @@
 
 ghost use Rattle.std.specs.Prelude.{◌≡◌, [], ◌∷◌, None, Some, codes, false, true};
 ghost use Rattle.link_manifest.specs.FaultText.{fault_text};
-ghost use Rattle.link_manifest.specs.Examples.{global_symbol, regular_object, of_batches, of_objects, of_options, of_libraries, elf_manifest};
-ghost use Rattle.link_manifest.specs.Manifest.{manifest_of, world_of};
+ghost use Rattle.link_manifest.specs.Examples.{global_symbol, regular_object, of_batches, of_objects, of_options, of_claim, of_libraries, elf_manifest, mach_manifest};
+ghost use Rattle.link_manifest.specs.Manifest.{manifest_of};
 ghost use Rattle.link_manifest.specs.Redirects.{redirect_of};
 ghost use Rattle.link_manifest.specs.Symbols.{null_entry};
 ghost use Rattle.link_manifest.specs.declared.fault.Step.TheVariants.{Key, Item};
 ghost use Rattle.link_manifest.specs.declared.fault.Kind.TheVariants as kind;
 ghost use Rattle.link_manifest.specs.declared.fault.ManifestFault.{ManifestFault};
-ghost use Rattle.link_manifest.specs.declared.manifest.Manifest.TheVariants.{Mach};
 ghost use Rattle.link_input.specs.Defaults.{default_options};
 ghost use Rattle.link_script_syntax.specs.declared.profile.ScriptProfile.TheVariants as profile;
 ghost use Rattle.link_input.specs.declared.internal_symbols.InternalSymDefInfo.{InternalSymDefInfo};
@@ -41,7 +40,7 @@ pub fn read_objects()
     ensures symbol { manifest_of (codes "{\"objects\":[{\"name\":\"m\",\"sections\":2,\"symbols\":[{\"name\":\"f\",\"place\":1}]}]}")
         ≡ Ok (elf_manifest (of_objects default_options (regular_object (codes "m") 2 (null_entry ∷ global_symbol (codes "f") (Section 1) ∷ []) [] ∷ []))) }
     ensures no_null_entry { manifest_of (codes "{\"platform\":\"macho\",\"objects\":[{\"name\":\"m\",\"symbols\":[{\"name\":\"f\",\"place\":\"undefined\"}]}]}")
-        ≡ Ok (Mach (world_of (of_objects default_options (regular_object (codes "m") 0 (global_symbol (codes "f") Undefined ∷ []) [] ∷ [])))) }
+        ≡ Ok (mach_manifest (of_objects default_options (regular_object (codes "m") 0 (global_symbol (codes "f") Undefined ∷ []) [] ∷ []))) }
     ensures hex_name { manifest_of (codes "{\"objects\":[{\"name\":\"m\",\"symbols\":[{\"name\":{\"hex\":\"fF0a\"},\"place\":\"absolute\"}]}]}")
         ≡ Ok (elf_manifest (of_objects default_options (regular_object (codes "m") 0 (null_entry ∷ global_symbol (255 ∷ 10 ∷ []) Absolute ∷ []) [] ∷ []))) }
 {}
@@ -49,7 +48,7 @@ pub fn read_objects()
 /// What each key of an object and of a symbol gives.
 pub fn read_object_keys()
     ensures symbol { manifest_of (codes "{\"platform\":\"macho\",\"objects\":[{\"name\":\"m\",\"symbols\":[{\"name\":\"f\",\"place\":\"common\",\"bind\":\"weak\",\"vis\":\"hidden\",\"kind\":\"tls\",\"size\":8,\"version\":\"v\",\"default\":false}]}]}")
-        ≡ Ok (Mach (world_of (of_objects default_options (regular_object (codes "m") 0 (record {
+        ≡ Ok (mach_manifest (of_objects default_options (regular_object (codes "m") 0 (record {
           name = codes "f";
           version = Some (codes "v");
           is_default = false;
@@ -58,22 +57,22 @@ pub fn read_object_keys()
           kind = symbol.Tls;
           size = 8;
           place = Common;
-        } ∷ []) [] ∷ [])))) }
+        } ∷ []) [] ∷ []))) }
     ensures group { manifest_of (codes "{\"objects\":[{\"name\":\"m\",\"sections\":4,\"groups\":[{\"header\":1,\"signature\":0,\"comdat\":false,\"members\":[2,3]}]}]}")
         ≡ Ok (elf_manifest (of_objects default_options (regular_object (codes "m") 4 (null_entry ∷ [])
         (record { index = 1; signature_symbol = 0; is_comdat = false; members = 2 ∷ 3 ∷ [] } ∷ []) ∷ []))) }
     ensures shared { manifest_of (codes "{\"platform\":\"macho\",\"objects\":[{\"name\":\"m\",\"dynamic\":true,\"as_needed\":true,\"lib_name\":\"l\"}]}")
-        ≡ Ok (Mach (world_of (of_objects default_options (record {
+        ≡ Ok (mach_manifest (of_objects default_options (record {
           input = codes "m";
           object = record { is_dynamic = true; lib_name = codes "l"; sections = 0; symbols = []; groups = [] };
           modifiers = record { archive = false; whole_archive = false; as_needed = true };
-        } ∷ [])))) }
+        } ∷ []))) }
     ensures member { manifest_of (codes "{\"platform\":\"macho\",\"objects\":[{\"name\":\"m\",\"archive\":true,\"whole_archive\":true}]}")
-        ≡ Ok (Mach (world_of (of_objects default_options (record {
+        ≡ Ok (mach_manifest (of_objects default_options (record {
           input = codes "m";
           object = record { is_dynamic = false; lib_name = codes "m"; sections = 0; symbols = []; groups = [] };
           modifiers = record { archive = true; whole_archive = true; as_needed = false };
-        } ∷ [])))) }
+        } ∷ []))) }
 {}
 
 /// What each option of the root gives.
@@ -107,6 +106,25 @@ pub fn read_later_options()
     ensures files_first { manifest_of (codes "{\"soname\":1,\"script_profile\":0,\"batches\":2}") ≡ Err (record { path = Key (codes "batches") ∷ []; problem = Problem.Expected kind.List }) }
     ensures profile_first { manifest_of (codes "{\"soname\":1,\"script_profile\":0}") ≡ Err (record { path = Key (codes "script_profile") ∷ []; problem = Problem.Expected kind.Number }) }
     ensures soname { manifest_of (codes "{\"soname\":1}") ≡ Err (record { path = Key (codes "soname") ∷ []; problem = Problem.Expected kind.Bytes }) }
+{}
+
+/// What a claim gives, which has all its keys, and which of several faults is told: a claim's come between those of the keys beside it.
+pub fn read_claims()
+    ensures none { manifest_of (codes "{\"claim\":null}") ≡ Ok (elf_manifest (of_options default_options)) }
+    ensures claim { manifest_of (codes "{\"claim\":{\"loaded\":[{\"object\":0,\"rank\":0,\"by\":null},{\"object\":2,\"rank\":1,\"by\":7}],\"kept\":[{\"object\":2,\"group\":1}],\"table\":[0,5]}}")
+        ≡ Ok (elf_manifest (of_claim default_options (record {
+          loaded = record { object = 0; rank = 0; by = None } ∷ record { object = 2; rank = 1; by = Some 7 } ∷ [];
+          kept = record { object = 2; group = 1 } ∷ [];
+          table = 0 ∷ 5 ∷ [];
+        }))) }
+    ensures macho { manifest_of (codes "{\"platform\":\"macho\",\"claim\":{\"loaded\":[],\"kept\":[],\"table\":[]}}")
+        ≡ Ok (mach_manifest (of_claim default_options (record { loaded = []; kept = []; table = [] }))) }
+    ensures missing { manifest_of (codes "{\"claim\":{\"table\":[],\"loaded\":[{\"object\":0,\"rank\":0}]}}")
+        ≡ Err (record { path = Key (codes "claim") ∷ Key (codes "loaded") ∷ Item 0 ∷ Key (codes "by") ∷ []; problem = Problem.Missing }) }
+    ensures group { manifest_of (codes "{\"claim\":{\"table\":[],\"kept\":[{\"object\":0,\"group\":-1}],\"loaded\":[]}}")
+        ≡ Err (record { path = Key (codes "claim") ∷ Key (codes "kept") ∷ Item 0 ∷ Key (codes "group") ∷ []; problem = Problem.Expected kind.Number }) }
+    ensures behind_profile { manifest_of (codes "{\"claim\":1,\"script_profile\":0}") ≡ Err (record { path = Key (codes "script_profile") ∷ []; problem = Problem.Expected kind.Number }) }
+    ensures before_soname { manifest_of (codes "{\"soname\":1,\"claim\":[]}") ≡ Err (record { path = Key (codes "claim") ∷ []; problem = Problem.Expected kind.Object }) }
 {}
 
 /// What texts, linker scripts and stub libraries give.

@@ -8,6 +8,7 @@
 #![tactic(auto)]
 
 mod batches;
+mod claims;
 mod contents;
 mod fault;
 mod laws;
@@ -26,7 +27,7 @@ mod words;
 
 pub use fault::{Kind, ManifestError, ManifestFault, Problem, Step};
 pub use laws::{
-    read_batches, read_later_options, read_libraries, read_object_keys, read_objects, read_options,
-    refused_values, refused_wholes, written_faults,
+    read_batches, read_claims, read_later_options, read_libraries, read_object_keys, read_objects,
+    read_options, refused_values, refused_wholes, written_faults,
 };
-pub use manifest::{MAX_BYTES, Manifest, manifest_leaking_tree, manifest_of};
+pub use manifest::{MAX_BYTES, Manifest, PlatformWorld, manifest_leaking_tree, manifest_of};

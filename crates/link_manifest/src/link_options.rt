@@ -3,16 +3,18 @@
 ghost use Rattle.std.specs.Prelude.{◌≡◌, codes, IfOk};
 ghost use Rattle.link_manifest_json.specs.Tree.{view};
 ghost use Rattle.link_manifest.specs.Checked.{IsGroupSize};
-ghost use Rattle.link_manifest.specs.LinkOptions.{placement_at, linker_symbol_read, options_read, later_options_read, texts_read};
+ghost use Rattle.link_manifest.specs.LinkOptions.{placement_at, linker_symbol_read, options_read, later_keys_read, texts_read};
 ghost use Rattle.link_manifest.specs.Reading.{optional, Reads};
 ghost use Rattle.link_manifest.specs.Values.{group_size_read};
 
+use crate::claims::ClaimOfLink;
 use crate::fault::ManifestError;
 use crate::reading::{Readable, nullable, object_of_keys, optional, optional_list, required};
 use crate::redirects::Defsym;
 use crate::values::{Bytes, Flag, GroupSize, Number, Profile};
 use crate::words::{OneOf, PlacementName};
 use json::Value;
+use link_check_claims::Claim;
 use link_input::{InternalSymDefInfo, Options, OutputKind, Scripts, SymbolPlacement};
 use link_script_syntax::ScriptProfile;
 use std::alloc::Global;
@@ -96,19 +98,20 @@ pub(crate) fn options(alloc: Global, value: &Value<'_>) -> Result<Options, Manif
     })
 }
 
-/// These options with those of which the root holds the keys behind the files.
-pub(crate) fn later_options(
+/// These options with those of which the root holds the keys behind the files, and the claim, whose key stands between those.
+pub(crate) fn later_keys(
     alloc: Global,
     value: &Value<'_>,
     mut options: Options,
-) -> Result<Options, ManifestError>
-    ensures read { Reads result (later_options_read options (view value.now)) }
-    ensures group_size { IfOk result (λ read. read.files_per_group ≡ options.files_per_group) }
+) -> Result<(Options, Option<Claim>), ManifestError>
+    ensures read { Reads result (later_keys_read options (view value.now)) }
+    ensures group_size { IfOk result (λ read. read.0.files_per_group ≡ options.files_per_group) }
 {
     let profile = ScriptProfile::Wild;
     options.script_profile = optional::<Profile>(alloc, value, "script_profile", profile)?;
+    let claim = nullable::<ClaimOfLink>(alloc, value, "claim")?;
     options.soname = nullable::<Bytes>(alloc, value, "soname")?;
-    Ok(options)
+    Ok((options, claim))
 }
 
 /// The texts of the version script and of the export list, of which the root holds the keys.

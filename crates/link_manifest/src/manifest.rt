@@ -3,19 +3,21 @@
 ghost use Rattle.std.specs.Prelude.{◌≡◌, ◌≤◌, Ok, Err, IfOk, IfErr, length};
 ghost use Rattle.link_manifest_json.specs.Tree.{view};
 ghost use Rattle.link_manifest.specs.declared.fault.ManifestFault.{ManifestFault};
+ghost use Rattle.link_manifest.specs.declared.words.PlatformName.TheVariants as platform;
 ghost use Rattle.link_manifest.specs.Checked.{AreDistinct, HasDistinctSections, HasFewBatches, HasGroupSize, IsGroupSize, contents_checked};
-ghost use Rattle.link_manifest.specs.Manifest.{contents_read, json_of, manifest_of, root_read, tree_of, world_of, world_read};
+ghost use Rattle.link_manifest.specs.Manifest.{contents_read, json_of, manifest_of, platform_read, root_read, tree_of, world_of, world_read};
 ghost use Rattle.link_manifest.specs.Reading.{IsFaultOf, Reads, and_read, read_or};
 
 use crate::batches::{batches, checked_batch, checked_batches, few_batches};
 use crate::contents::Contents;
 use crate::fault::{ManifestError, Problem};
-use crate::link_options::{later_options, options, texts};
+use crate::link_options::{later_keys, options, texts};
 use crate::path::fault_here;
 use crate::reading::{object_of_keys, optional};
 use crate::sections::sections_checked;
 use crate::words::{OneOf, PlatformName};
 use json::{Scratch, Value};
+use link_check_claims::Claim;
 use link_input::{ElfLike, MachLike, Platform, World};
 use link_names::text_of;
 use std::alloc::Global;
@@ -26,9 +28,18 @@ pub const MAX_BYTES: usize = 1 << 28;
 
 /// What is linked, and how, for the platform that the manifest names.
 #[derive(Drop)]
-pub enum Manifest {
+pub enum PlatformWorld {
     Elf(World<ElfLike>),
     Mach(World<MachLike>),
+}
+
+/// What a manifest says.
+#[derive(Drop)]
+pub struct Manifest {
+    /// What is linked.
+    pub world: PlatformWorld,
+    /// What is claimed of the link; none where the manifest claims nothing.
+    pub claim: Option<Claim>,
 }
 
 /// What the root says behind its platform.
@@ -39,47 +50,80 @@ fn contents<P: Platform>(alloc: Global, value: &Value<'_>) -> Result<Contents, M
     let options = options(alloc, value)?;
     let texts = texts(alloc, value)?;
     let (first, later) = batches::<P>(alloc, value)?;
-    let options = later_options(alloc, value, options)?;
+    let (options, claim) = later_keys(alloc, value, options)?;
     Ok(Contents {
         options,
         texts,
         first,
         later,
+        claim,
     })
 }
 
-/// The world of some contents, where they pass the checks.
-fn checked_world<P: Platform>(alloc: Global, contents: Contents) -> Result<World<P>, ManifestError>
-    ensures read { Reads result (and_read (contents_checked P.HAS_NULL_SYMBOL_ENTRY contents) (λ _. Ok (world_of contents))) }
-    ensures options { IfOk result (λ world. world.options ≡ contents.options) }
-    ensures distinct { IfOk result (λ world. AreDistinct world.options.custom_sections) }
-    ensures few { IfOk result (λ world. length world.later ≤ 255) }
+/// The world of some contents with their claim, where they pass the checks.
+fn checked_world<P: Platform>(
+    alloc: Global,
+    contents: Contents,
+) -> Result<(World<P>, Option<Claim>), ManifestError>
+    ensures read { Reads result (and_read (contents_checked P.HAS_NULL_SYMBOL_ENTRY contents) (λ _. Ok (world_of contents, contents.claim))) }
+    ensures options { IfOk result (λ read. read.0.options ≡ contents.options) }
+    ensures distinct { IfOk result (λ read. AreDistinct read.0.options.custom_sections) }
+    ensures few { IfOk result (λ read. length read.0.later ≤ 255) }
 {
     let Contents {
         options,
         texts,
         first,
         later,
+        claim,
     } = contents;
     sections_checked(alloc, options.custom_sections.as_slice())?;
     few_batches(alloc, later.as_slice())?;
-    Ok(World {
+    let world = World {
         inputs: checked_batch(alloc, first)?,
         later: checked_batches(alloc, later)?,
         options,
         scripts: texts,
-    })
+    };
+    Ok((world, claim))
 }
 
-/// The world that the root of a tree describes.
-fn world<P: Platform>(alloc: Global, value: &Value<'_>) -> Result<World<P>, ManifestError>
+/// The world that the root of a tree describes, with the claim.
+fn world<P: Platform>(
+    alloc: Global,
+    value: &Value<'_>,
+) -> Result<(World<P>, Option<Claim>), ManifestError>
     ensures read { Reads result (world_read P.HAS_NULL_SYMBOL_ENTRY (view value.now)) }
-    ensures group_size { IfOk result (λ world. IsGroupSize world.options.files_per_group) }
-    ensures distinct { IfOk result (λ world. AreDistinct world.options.custom_sections) }
-    ensures few { IfOk result (λ world. length world.later ≤ 255) }
+    ensures group_size { IfOk result (λ read. IsGroupSize read.0.options.files_per_group) }
+    ensures distinct { IfOk result (λ read. AreDistinct read.0.options.custom_sections) }
+    ensures few { IfOk result (λ read. length read.0.later ≤ 255) }
 {
     let contents = contents::<P>(alloc, value)?;
     checked_world(alloc, contents)
+}
+
+/// The manifest of a platform like ELF that a tree describes.
+fn elf(alloc: Global, value: &Value<'_>) -> Result<Manifest, ManifestError>
+    ensures read { Reads result (platform_read platform.Elf (view value.now)) }
+    ensures group_size { IfOk result HasGroupSize }
+    ensures distinct { IfOk result HasDistinctSections }
+    ensures few { IfOk result HasFewBatches }
+{
+    let (world, claim) = world(alloc, value)?;
+    let world = PlatformWorld::Elf(world);
+    Ok(Manifest { world, claim })
+}
+
+/// The manifest of a platform like Mach-O that a tree describes.
+fn mach(alloc: Global, value: &Value<'_>) -> Result<Manifest, ManifestError>
+    ensures read { Reads result (platform_read platform.Mach (view value.now)) }
+    ensures group_size { IfOk result HasGroupSize }
+    ensures distinct { IfOk result HasDistinctSections }
+    ensures few { IfOk result HasFewBatches }
+{
+    let (world, claim) = world(alloc, value)?;
+    let world = PlatformWorld::Mach(world);
+    Ok(Manifest { world, claim })
 }
 
 /// The manifest that a tree describes.
@@ -112,12 +156,13 @@ fn root(alloc: Global, value: &Value<'_>) -> Result<Manifest, ManifestError>
             "stubs",
             "batches",
             "script_profile",
+            "claim",
             "soname",
         ],
     )?;
     match optional::<OneOf<PlatformName>>(alloc, value, "platform", PlatformName::Elf)? {
-        PlatformName::Elf => Ok(Manifest::Elf(world(alloc, value)?)),
-        PlatformName::Mach => Ok(Manifest::Mach(world(alloc, value)?)),
+        PlatformName::Elf => elf(alloc, value),
+        PlatformName::Mach => mach(alloc, value),
     }
 }
 

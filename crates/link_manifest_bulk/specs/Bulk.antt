@@ -5,7 +5,7 @@ use Rattle.link_input.specs.Defaults.{default_options}
 use Rattle.link_input.specs.declared.object.ObjectTable.{ObjectTable}
 use Rattle.link_input.specs.ObjectFile.{ObjectFile}
 use Rattle.link_manifest.specs.declared.manifest.Manifest.{Manifest}
-use Rattle.link_manifest.specs.declared.manifest.Manifest.TheVariants.{Elf}
+use Rattle.link_manifest.specs.declared.manifest.PlatformWorld.TheVariants.{Elf}
 use Rattle.link_manifest_bulk.specs.Names.{main_file, member_file}
 use Rattle.link_manifest_bulk.specs.Tables.{main_table, member_table}
 
@@ -33,14 +33,17 @@ bulk_object members place = if place == 0 then main_object else member_object me
 abbrev pub bulk_objects : ℕ → List ObjectFile
 bulk_objects members = map (bulk_object members) (range_with_len 0 (members + 1))
 
--- a link of these objects, for a platform like ELF and by the options of a link of which the user says nothing
+-- a link of these objects, for a platform like ELF and by the options of a link of which the user says nothing, and of which nothing is claimed
 abbrev pub manifest_with : List ObjectFile → Manifest
-manifest_with objects = Elf (record {
-  inputs = record { objects = objects; scripts = []; stubs = [] };
-  later = [];
-  options = default_options;
-  scripts = record { version_script = None; export_list = None };
-})
+manifest_with objects = record {
+  world = Elf (record {
+    inputs = record { objects = objects; scripts = []; stubs = [] };
+    later = [];
+    options = default_options;
+    scripts = record { version_script = None; export_list = None };
+  });
+  claim = None;
+}
 
 -- what is linked
 abbrev pub bulk_manifest : ℕ → Manifest

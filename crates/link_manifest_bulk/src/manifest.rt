@@ -5,7 +5,7 @@ ghost use Rattle.link_manifest_bulk.specs.Bulk.{bulk_manifest, bulk_objects, man
 
 use crate::objects::bulk_object;
 use link_input::{ElfLike, Inputs, Options, ParsedInputObject, Scripts, World};
-use link_manifest::Manifest;
+use link_manifest::{Manifest, PlatformWorld};
 use link_names::Seq;
 use std::alloc::{AllocError, Global};
 
@@ -27,7 +27,7 @@ fn bulk_objects(
     Ok(Seq::from_vec(objects))
 }
 
-/// A link of these objects, for a platform like ELF, by the options of a link of which the user says nothing.
+/// A link of these objects, for a platform like ELF, by the options of a link of which the user says nothing. Nothing is claimed of it.
 pub(crate) fn manifest_with(alloc: Global, objects: Seq<ParsedInputObject<ElfLike>>) -> Manifest
     ensures { result ≡ manifest_with objects }
 {
@@ -40,12 +40,15 @@ pub(crate) fn manifest_with(alloc: Global, objects: Seq<ParsedInputObject<ElfLik
         version_script: None,
         export_list: None,
     };
-    Manifest::Elf(World {
-        inputs,
-        later: Seq::new(alloc),
-        options: Options::new(alloc),
-        scripts,
-    })
+    Manifest {
+        world: PlatformWorld::Elf(World {
+            inputs,
+            later: Seq::new(alloc),
+            options: Options::new(alloc),
+            scripts,
+        }),
+        claim: None,
+    }
 }
 
 /// A made-up link of an object and an archive with so many members, for a platform like ELF, by the options of a link of

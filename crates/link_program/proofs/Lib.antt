@@ -4,3 +4,4 @@ pub mod OneText
 pub mod OfWorld
 pub mod VerdefEndings
 pub mod WhyText
+pub mod CheckText

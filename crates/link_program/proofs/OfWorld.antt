@@ -1,11 +1,16 @@
 -- The text of a link of a world is that of the bytes that describe it, of the source that had them left, and of the words.
-use Rattle.std.proofs.Common.{◌≡◌, ◌≢◌, ◌⊎◌, ◌≤◌, ℕ, List, Option, Result, Ok, Err, IfOk, inl, inr, refl, sym, subst, ◌∙◌, Some, None}
+use Rattle.std.proofs.Common.{◌≡◌, ◌≢◌, ◌⊎◌, ◌≤◌, ℕ, List, [], ◌∷◌, Option, Result, Ok, Err, IfOk, inl, inr, refl, sym, subst, ◌∙◌, Some, None}
 use Rattle.link_manifest_bulk.proofs.Linking.{not-refused}
 use Rattle.link_manifest_bulk.specs.Bulk.{bulk_objects}
 use Rattle.link_manifest_bulk.specs.World.{bulk_world}
 use Rattle.std.proofs.lemmas.List.{append-nil}
 use Rattle.link_program_streams.specs.Streams.{Gives, IsAtEnd}
 use Rattle.std.specs.Prelude.{IfSome}
+use Rattle.link_check.specs.declared.verdict.Verdict.{Verdict}
+use Rattle.link_check.specs.declared.verdict.Verdict.TheVariants.{Holds, FailsLoaded, FailsKept, FailsTable}
+use Rattle.link_check_claims.specs.declared.claim.Claim.{Claim}
+use Rattle.link_check_texts.specs.Causes.{opening_refusal}
+use Rattle.link_input.specs.InputFiles.{Batch}
 use Rattle.link_rules.specs.Linked.{Linked as Answer}
 use Rattle.link_rules.specs.declared.refusal.LinkError.{LinkError}
 use Rattle.link_rules.specs.declared.refusal.LinkError.TheVariants as refusal
@@ -19,7 +24,7 @@ use Rattle.link_manifest.specs.declared.fault.ManifestFault.{ManifestFault}
 use Rattle.link_manifest.specs.declared.manifest.Manifest.{Manifest as Described}
 use Rattle.link_manifest.specs.Manifest.{manifest_of}
 use Rattle.link_program.specs.declared.status.Status.{Status}
-use Rattle.link_program.specs.declared.status.Status.TheVariants.{Linked, Refused, Usage, Manifest, ReadFault, WriteFault, Memory}
+use Rattle.link_program.specs.declared.status.Status.TheVariants.{Linked, Refused, Usage, Manifest, ReadFault, WriteFault, Memory, Fails}
 use Rattle.link_program.specs.declared.run.Reading.{Reading}
 use Rattle.link_program.specs.declared.run.Reading.TheVariants as asked
 use Rattle.link_program.specs.declared.run.Told.TheVariants.{Summary}
@@ -27,6 +32,7 @@ use Rattle.link_program.specs.Grammar.{IsBulk}
 use Rattle.link_program.specs.Described.{error_line, given_of, world_of_manifest}
 use Rattle.link_program.specs.Outcome.{told_text, text_read, IsReadText, IsSummary, IsTextFor, IsTextOf, IsTextRead, IsToldOf, IsWholeText, IsWorldText}
 use Rattle.link_program.specs.Why.{IsWhyReport}
+use Rattle.link_program.specs.Check.{IsJudged, IsOfBatches, IsOfClaim, IsOfManifest, verdict_ending}
 use Rattle.link_program.specs.Verdef.{manifest_ending, refused_or, soname_ending, IsVerdefOf}
 
 -- what is told of a link of what some bytes describe, is so of the bytes
@@ -39,6 +45,7 @@ text-of_link IsTold bytes m Manifest text is held = absurd held
 text-of_link IsTold bytes m ReadFault text is held = absurd held
 text-of_link IsTold bytes m WriteFault text is held = absurd held
 text-of_link IsTold bytes m Memory text is held = absurd held
+text-of_link IsTold bytes m Fails text is held = absurd held
 
 -- such a status comes of bytes that were read
 abbrev pub IsAnswer : Status → Type 0
@@ -49,6 +56,7 @@ IsAnswer Usage = ⊥
 IsAnswer ReadFault = ⊥
 IsAnswer WriteFault = ⊥
 IsAnswer Memory = ⊥
+IsAnswer Fails = Unit {0}
 
 -- of a link only these come
 link-answers : (IsTold : World → Bytes → Type 0) (bytes : Bytes) (s : Status) (text : Bytes) → IsTextOf IsTold bytes s text → IsAnswer s
@@ -59,6 +67,7 @@ link-answers IsTold bytes Usage text held = held
 link-answers IsTold bytes ReadFault text held = held
 link-answers IsTold bytes WriteFault text held = held
 link-answers IsTold bytes Memory text held = held
+link-answers IsTold bytes Fails text held = tt
 
 refused-answers : (cause : Option Bytes) (text : Bytes) → IsAnswer (refused_or cause text).0
 refused-answers None text = tt
@@ -76,10 +85,34 @@ ending-answers (Err fault) = tt
 verdef-answers : (bytes : Bytes) (s : Status) (text : Bytes) → IsVerdefOf bytes s text → IsAnswer s
 verdef-answers bytes s text held = subst (λ (ending : Status × Bytes). IsAnswer ending.0) held (ending-answers (manifest_of bytes))
 
+verdict-answers : (verdict : Verdict) → IsAnswer (verdict_ending verdict).0
+verdict-answers Holds = tt
+verdict-answers FailsLoaded = tt
+verdict-answers FailsKept = tt
+verdict-answers (FailsTable id) = tt
+
+judged-answers : (w : World) (claim : Claim) (cause : Option LinkError) (ending : Status × Bytes) → IsJudged w claim cause ending → IsAnswer ending.0
+judged-answers w claim None ending (verdict, is, ends) = subst (λ (e : Status × Bytes). IsAnswer e.0) (sym ends) (verdict-answers verdict)
+judged-answers w claim (Some error) ending ends = subst (λ (e : Status × Bytes). IsAnswer e.0) (sym ends) tt
+
+batches-answers : (w : World) (claim : Claim) (later : List Batch) (ending : Status × Bytes) → IsOfBatches w claim later ending → IsAnswer ending.0
+batches-answers w claim [] ending held = judged-answers w claim (opening_refusal w) ending held
+batches-answers w claim (b ∷ bs) ending ends = subst (λ (e : Status × Bytes). IsAnswer e.0) (sym ends) tt
+
+claim-answers : (w : World) (claim : Option Claim) (ending : Status × Bytes) → IsOfClaim w claim ending → IsAnswer ending.0
+claim-answers w None ending ends = subst (λ (e : Status × Bytes). IsAnswer e.0) (sym ends) tt
+claim-answers w (Some claim) ending held = batches-answers w claim w.later ending held
+
+-- nor do others of a claim
+check-answers : (m : Result Described ManifestFault) (ending : Status × Bytes) → IsOfManifest m ending → IsAnswer ending.0
+check-answers (Err fault) ending ends = subst (λ (e : Status × Bytes). IsAnswer e.0) (sym ends) tt
+check-answers (Ok m) ending held = claim-answers (world_of_manifest m) m.claim ending held
+
 answers-read : (reading : Reading) (bytes : Bytes) (s : Status) (text : Bytes) → text_read reading bytes s text → IsAnswer s
 answers-read (asked.Link workers) bytes s text held = link-answers IsReport bytes s text held
 answers-read (asked.Why workers) bytes s text held = link-answers IsWhyReport bytes s text held
 answers-read asked.Verdef bytes s text held = verdef-answers bytes s text held
+answers-read asked.Check bytes s text held = check-answers (manifest_of bytes) (s, text) held
 
 -- bytes that were read end with no fault of reading
 pub never-read_fault : (reading : Reading) (bytes : Bytes) (s : Status) (text : Bytes) → text_read reading bytes s text → s ≡ ReadFault → ⊥
@@ -90,6 +123,7 @@ left-text : (IsOf : Bytes → Status → Bytes → Type 0) (left : Option Bytes)
 left-text IsOf left Linked text answer whole = whole
 left-text IsOf left Refused text answer whole = whole
 left-text IsOf left Manifest text answer whole = whole
+left-text IsOf left Fails text answer whole = whole
 left-text IsOf left Usage text answer whole = absurd answer
 left-text IsOf left ReadFault text answer whole = absurd answer
 left-text IsOf left WriteFault text answer whole = absurd answer
@@ -105,6 +139,7 @@ pub words-text : (words : List Bytes) (left : Option Bytes) (s : Status) (text :
 words-text words left Linked text held = inl held
 words-text words left Refused text held = held
 words-text words left Manifest text held = held
+words-text words left Fails text held = held
 words-text words left ReadFault text held = held
 words-text words left Usage text held = absurd held.2
 words-text words left WriteFault text held = absurd held.2
@@ -124,6 +159,7 @@ summary-of members Manifest text some few held = absurd held
 summary-of members ReadFault text some few held = absurd held
 summary-of members WriteFault text some few held = absurd held
 summary-of members Memory text some few held = absurd held
+summary-of members Fails text some few held = absurd held
 
 -- a link that stands ends with what is told of it
 pub linked-text : (w : World) (tell : Answer → Bytes) (linked : Answer) (s : Status) (text : Bytes) → IsLinked w linked → s ≡ Linked → text ≡ tell linked → IsWorldText w (IsToldOf w tell) s text

@@ -1,9 +1,14 @@
 -- What is due is written, unless a fault comes between or memory runs out.
-use Rattle.std.proofs.Common.{◌≡◌, ◌⊎◌, ℕ, inl, inr, List, ◌++◌, Option, Some, None, IsSome, Result, Ok, Err, codes, refl, sym, ◌∙◌, subst, ap}
+use Rattle.std.proofs.Common.{◌≡◌, ◌⊎◌, ℕ, inl, inr, List, [], ◌∷◌, ◌++◌, Option, Some, None, IsSome, Result, Ok, Err, codes, refl, sym, ◌∙◌, subst, ap}
 use Rattle.link_rules.specs.Places.{Bytes}
 use Rattle.std.specs.Prelude.{decimal}
 use Rattle.link_manifest_bulk.specs.Bulk.{bulk_objects}
 use Rattle.link_manifest_bulk.specs.World.{bulk_world}
+use Rattle.link_check.proofs.OneVerdict.{one-verdict}
+use Rattle.link_check_claims.specs.declared.claim.Claim.{Claim}
+use Rattle.link_check_texts.specs.Causes.{opening_refusal}
+use Rattle.link_input.specs.InputFiles.{Batch}
+use Rattle.link_rules.specs.declared.refusal.LinkError.{LinkError}
 use Rattle.link_rules.specs.Linked.{Linked as Answer}
 use Rattle.link_rules.specs.declared.explanation.Explanation.{Explanation}
 use Rattle.link_rules.specs.Answer.{IsLinked, IsRefused, IsReport, IsRefusalText}
@@ -22,10 +27,11 @@ use Rattle.link_program.specs.declared.command.Command.TheVariants.{Bulk}
 use Rattle.link_program.specs.declared.run.Reading.{Reading}
 use Rattle.link_program.specs.declared.run.Reading.TheVariants as asked
 use Rattle.link_program.specs.declared.status.Status.{Status}
-use Rattle.link_program.specs.declared.status.Status.TheVariants.{Linked, Refused, Usage, Manifest, ReadFault, WriteFault, Memory}
+use Rattle.link_program.specs.declared.status.Status.TheVariants.{Linked, Refused, Usage, Manifest, ReadFault, WriteFault, Memory, Fails}
 use Rattle.link_program.specs.Grammar.{IsBulk, IsNoCommand, IsReading, ReadsManifest, command_read}
 use Rattle.link_program.specs.Described.{error_line, world_of_manifest}
 use Rattle.link_program.specs.Outcome.{IsDue, IsReadText, IsSummary, IsSummaryFor, IsTextFor, IsTextOf, IsTextRead, IsWholeText, text_read}
+use Rattle.link_program.specs.Check.{IsCheckOf, IsJudged, IsOfBatches, IsOfClaim, IsOfManifest, verdict_ending}
 use Rattle.link_program.specs.Verdef.{IsVerdefOf}
 use Rattle.link_program.specs.Why.{IsWhyReport}
 use Rattle.link_report.specs.Summary.{summary_text}
@@ -85,18 +91,22 @@ module _ (IsTold : World → Bytes → Type 0) (one : (w : World) (a b : Bytes) 
   one-text bytes ReadFault t a b held held' = absurd held
   one-text bytes WriteFault t a b held held' = absurd held
   one-text bytes Memory t a b held held' = absurd held
+  one-text bytes Fails t a b held held' = absurd held
   one-text bytes Linked Usage a b held held' = absurd held'
   one-text bytes Linked ReadFault a b held held' = absurd held'
   one-text bytes Linked WriteFault a b held held' = absurd held'
   one-text bytes Linked Memory a b held held' = absurd held'
+  one-text bytes Linked Fails a b held held' = absurd held'
   one-text bytes Refused Usage a b held held' = absurd held'
   one-text bytes Refused ReadFault a b held held' = absurd held'
   one-text bytes Refused WriteFault a b held held' = absurd held'
   one-text bytes Refused Memory a b held held' = absurd held'
+  one-text bytes Refused Fails a b held held' = absurd held'
   one-text bytes Manifest Usage a b held held' = absurd held'
   one-text bytes Manifest ReadFault a b held held' = absurd held'
   one-text bytes Manifest WriteFault a b held held' = absurd held'
   one-text bytes Manifest Memory a b held held' = absurd held'
+  one-text bytes Manifest Fails a b held held' = absurd held'
 
 -- a link has one explanation, and so one text of it
 why-one : (w : World) (a b : Bytes) → IsWhyReport w a → IsWhyReport w b → a ≡ b
@@ -111,6 +121,28 @@ why-one w a b (linked, done, (ws, l, e, passes, is, line)) (linked', done', (vs,
 one-verdef : (bytes : Bytes) (s t : Status) (a b : Bytes) → IsVerdefOf bytes s a → IsVerdefOf bytes t b → (s ≡ t) × (a ≡ b)
 one-verdef bytes s t a b held held' =
     let same : (s, a) ≡ (t, b) = sym held ∙ held' in
+    (ap (λ (ending : Status × Bytes). ending.0) same, ap (λ (ending : Status × Bytes). ending.1) same)
+
+judged-one : (w : World) (claim : Claim) (cause : Option LinkError) (e d : Status × Bytes) → IsJudged w claim cause e → IsJudged w claim cause d → e ≡ d
+judged-one w claim None e d (verdict, is, ends) (verdict', is', ends') = ends ∙ ap verdict_ending (one-verdict w claim verdict verdict' is is') ∙ sym ends'
+judged-one w claim (Some error) e d ends ends' = ends ∙ sym ends'
+
+batches-one : (w : World) (claim : Claim) (later : List Batch) (e d : Status × Bytes) → IsOfBatches w claim later e → IsOfBatches w claim later d → e ≡ d
+batches-one w claim [] e d held held' = judged-one w claim (opening_refusal w) e d held held'
+batches-one w claim (b ∷ bs) e d ends ends' = ends ∙ sym ends'
+
+claim-one : (w : World) (claim : Option Claim) (e d : Status × Bytes) → IsOfClaim w claim e → IsOfClaim w claim d → e ≡ d
+claim-one w None e d ends ends' = ends ∙ sym ends'
+claim-one w (Some claim) e d held held' = batches-one w claim w.later e d held held'
+
+manifest-one : (m : Result Described ManifestFault) (e d : Status × Bytes) → IsOfManifest m e → IsOfManifest m d → e ≡ d
+manifest-one (Err fault) e d ends ends' = ends ∙ sym ends'
+manifest-one (Ok m) e d held held' = claim-one (world_of_manifest m) m.claim e d held held'
+
+-- and end `check` in one way
+one-check : (bytes : Bytes) (s t : Status) (a b : Bytes) → IsCheckOf bytes s a → IsCheckOf bytes t b → (s ≡ t) × (a ≡ b)
+one-check bytes s t a b held held' =
+    let same : (s, a) ≡ (t, b) = manifest-one (manifest_of bytes) (s, a) (t, b) held held' in
     (ap (λ (ending : Status × Bytes). ending.0) same, ap (λ (ending : Status × Bytes). ending.1) same)
 
 -- what is said of bytes has one status and one text
@@ -129,6 +161,7 @@ read-whole : (IsOf : Bytes → Status → Bytes → Type 0) (left : Option Bytes
 read-whole IsOf left Linked text no_fault held = held
 read-whole IsOf left Refused text no_fault held = held
 read-whole IsOf left Manifest text no_fault held = held
+read-whole IsOf left Fails text no_fault held = held
 read-whole IsOf left ReadFault text no_fault held = absurd (no_fault refl)
 read-whole IsOf left Usage text no_fault held = absurd held
 read-whole IsOf left WriteFault text no_fault held = absurd held
@@ -161,6 +194,7 @@ reads-not_bulk : (words : List Bytes) (n : ℕ) → ReadsManifest words → IsBu
 reads-not_bulk words n (asked.Link w, is) (workers', is') = let same = is.0 in let same' = is'.0 in cc
 reads-not_bulk words n (asked.Why w, is) (workers', is') = let same = is.0 in let same' = is'.0 in cc
 reads-not_bulk words n (asked.Verdef, is) (workers', is') = let same = is.0 in let same' = is'.0 in cc
+reads-not_bulk words n (asked.Check, is) (workers', is') = let same = is.0 in let same' = is'.0 in cc
 
 reads-of : (words : List Bytes) (left : Option Bytes) (s : Status) (text : Bytes) → IsTextRead words left s text → ReadsManifest words
 reads-of words left s text held = (held.0, held.1)
@@ -170,12 +204,20 @@ one-of : (reading : Reading) → IsOne (text_read reading)
 one-of (asked.Link workers) = one-text IsReport one-report (λ w a held. (held.0, held.1))
 one-of (asked.Why workers) = one-text IsWhyReport why-one (λ w a held. (held.0, held.1))
 one-of asked.Verdef = one-verdef
+one-of asked.Check = one-check
 
 -- the words ask for one text
 same-reading : (words : List Bytes) (r q : Reading) → IsReading words r → IsReading words q → (bytes : Bytes) (s : Status) (text : Bytes) → text_read q bytes s text → text_read r bytes s text
 same-reading words (asked.Link n) (asked.Link m) is is' bytes s text held = held
 same-reading words (asked.Why n) (asked.Why m) is is' bytes s text held = held
 same-reading words asked.Verdef asked.Verdef is is' bytes s text held = held
+same-reading words asked.Check asked.Check is is' bytes s text held = held
+same-reading words asked.Check (asked.Link m) is is' bytes s text held = let same = is.0 in let same' = is'.0 in absurd cc
+same-reading words asked.Check (asked.Why m) is is' bytes s text held = let same = is.0 in let same' = is'.0 in absurd cc
+same-reading words asked.Check asked.Verdef is is' bytes s text held = let same = is.0 in let same' = is'.0 in absurd cc
+same-reading words (asked.Link n) asked.Check is is' bytes s text held = let same = is.0 in let same' = is'.0 in absurd cc
+same-reading words (asked.Why n) asked.Check is is' bytes s text held = let same = is.0 in let same' = is'.0 in absurd cc
+same-reading words asked.Verdef asked.Check is is' bytes s text held = let same = is.0 in let same' = is'.0 in absurd cc
 same-reading words (asked.Link n) (asked.Why m) is is' bytes s text held = let same = is.0 in let same' = is'.0 in absurd cc
 same-reading words (asked.Why n) (asked.Link m) is is' bytes s text held = let same = is.0 in let same' = is'.0 in absurd cc
 same-reading words (asked.Link n) asked.Verdef is is' bytes s text held = let same = is.0 in let same' = is'.0 in absurd cc
@@ -199,6 +241,7 @@ due-read words left Usage t a b due no_fault held = absurd (reads-is_command wor
 due-read words left ReadFault t a b due no_fault held = absurd due
 due-read words left WriteFault t a b due no_fault held = absurd due
 due-read words left Memory t a b due no_fault held = absurd due
+due-read words left Fails t a b due no_fault held = one-read words left Fails t a b due.0 (λ e. cc) no_fault due.1 held
 
 due-bulk : (words : List Bytes) (left : Option Bytes) (s : Status) (a b : Bytes) → IsDue words left s a → IsSummaryFor words b → (Linked ≡ s) × (b ≡ a)
 due-bulk words left Linked a b (inl due) held = absurd (reads-not_bulk words held.0 (reads-of words left Linked a due.1) held.1)
@@ -209,6 +252,7 @@ due-bulk words left Usage a b due held = absurd (bulk-is_command words held.0 he
 due-bulk words left ReadFault a b due held = absurd due
 due-bulk words left WriteFault a b due held = absurd due
 due-bulk words left Memory a b due held = absurd due
+due-bulk words left Fails a b due held = absurd (reads-not_bulk words held.0 (reads-of words left Fails a due.1) held.1)
 
 due-usage : (words : List Bytes) (left : Option Bytes) (s : Status) (a b : Bytes) → IsDue words left s a → IsTextFor words left Usage b → (Usage ≡ s) × (b ≡ a)
 due-usage words left Usage a b due held = (refl, held.1 ∙ sym due.1)
@@ -219,6 +263,7 @@ due-usage words left Manifest a b due held = absurd (reads-is_command words (rea
 due-usage words left ReadFault a b due held = absurd due
 due-usage words left WriteFault a b due held = absurd due
 due-usage words left Memory a b due held = absurd due
+due-usage words left Fails a b due held = absurd (reads-is_command words (reads-of words left Fails a due.1) held.0)
 
 -- where no fault comes between, what is due or want of memory is left
 pub due-or_memory : (words : List Bytes) (left : Option Bytes) (s t : Status) (a b : Bytes) → IsDue words left s a → (t ≡ ReadFault → ⊥)
@@ -231,3 +276,4 @@ due-or_memory words left s Usage a b due no_fault held = inl (due-usage words le
 due-or_memory words left s ReadFault a b due no_fault held = absurd (no_fault refl)
 due-or_memory words left s WriteFault a b due no_fault held = absurd held
 due-or_memory words left s Memory a b due no_fault held = inr refl
+due-or_memory words left s Fails a b due no_fault held = inl (due-read words left s Fails a b due no_fault held)

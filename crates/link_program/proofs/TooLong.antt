@@ -32,6 +32,7 @@ pub fault-read : (reading : Reading) (bytes : Bytes) (fault : ManifestFault) (te
 fault-read (asked.Link workers) bytes fault text fails line = (fault, fails, line)
 fault-read (asked.Why workers) bytes fault text fails line = (fault, fails, line)
 fault-read asked.Verdef bytes fault text fails line = ap manifest_ending fails ∙ ap (λ (t : Bytes). (Manifest, t)) (sym line)
+fault-read asked.Check bytes fault text fails line = rw fails (ap (λ (t : Bytes). (Manifest, t)) line)
 
 text-too_long : (reading : Reading) (left : Option Bytes) (fault : ManifestFault) (text : Bytes) → IfSome left (λ all. 2 ^ 28 < length all) → fault ≡ fault_here TooLong
     → text ≡ error_line (codes "manifest: " ++ fault_text fault) → IsReadText (text_read reading) left Manifest text

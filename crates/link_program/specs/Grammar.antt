@@ -2,7 +2,7 @@
 use Rattle.std.specs.Prelude.{◌≡◌, ◌⊎◌, ℕ, ◌≤◌, List, [], ◌∷◌, codes, decimal}
 use Rattle.link_rules.specs.Places.{Bytes}
 use Rattle.link_program.specs.declared.command.Command.{Command}
-use Rattle.link_program.specs.declared.command.Command.TheVariants.{Link, Why, Bulk, Verdef}
+use Rattle.link_program.specs.declared.command.Command.TheVariants.{Link, Why, Bulk, Verdef, Check}
 use Rattle.link_program.specs.declared.run.Reading.{Reading}
 use Rattle.link_program.specs.declared.run.Reading.TheVariants as asked
 
@@ -12,6 +12,7 @@ words_of (Link workers) = codes "link" ∷ decimal workers ∷ []
 words_of (Why workers) = codes "why" ∷ decimal workers ∷ []
 words_of (Bulk members workers) = codes "bulk" ∷ decimal members ∷ decimal workers ∷ []
 words_of Verdef = codes "verdef" ∷ []
+words_of Check = codes "check" ∷ []
 
 -- its numbers are in their range
 abbrev pub IsInRange : Command → Type 0
@@ -19,6 +20,7 @@ IsInRange (Link workers) = (1 ≤ workers) × (workers ≤ 256)
 IsInRange (Why workers) = (1 ≤ workers) × (workers ≤ 256)
 IsInRange (Bulk members workers) = ((1 ≤ members) × (members ≤ 100000)) × ((1 ≤ workers) × (workers ≤ 256))
 IsInRange Verdef = Unit {0}
+IsInRange Check = Unit {0}
 
 abbrev pub IsCommand : List Bytes → Command → Type 0
 IsCommand words command = (words ≡ words_of command) × IsInRange command
@@ -32,6 +34,7 @@ abbrev pub command_read : Reading → Command
 command_read (asked.Link workers) = Link workers
 command_read (asked.Why workers) = Why workers
 command_read asked.Verdef = Verdef
+command_read asked.Check = Check
 
 -- the words ask this of a manifest
 abbrev pub IsReading : List Bytes → Reading → Type 0

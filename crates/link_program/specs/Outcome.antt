@@ -19,7 +19,8 @@ use Rattle.link_program.specs.declared.run.Reading.TheVariants as asked
 use Rattle.link_program.specs.declared.run.Told.{Told}
 use Rattle.link_program.specs.declared.run.Told.TheVariants.{Report, Summary}
 use Rattle.link_program.specs.declared.status.Status.{Status}
-use Rattle.link_program.specs.declared.status.Status.TheVariants.{Linked, Refused, Usage, Manifest, ReadFault, WriteFault, Memory}
+use Rattle.link_program.specs.declared.status.Status.TheVariants.{Linked, Refused, Usage, Manifest, ReadFault, WriteFault, Memory, Fails}
+use Rattle.link_program.specs.Check.{IsCheckOf}
 use Rattle.link_program.specs.Described.{error_line, world_of_manifest}
 use Rattle.link_program.specs.Grammar.{IsBulk, IsInRange, IsNoCommand, IsReading, command_read}
 use Rattle.link_program.specs.Verdef.{IsVerdefOf}
@@ -34,6 +35,7 @@ status_number Manifest = 3
 status_number ReadFault = 4
 status_number WriteFault = 5
 status_number Memory = 6
+status_number Fails = 7
 
 -- the text of a link of what these bytes describe, by the status; where the link isn't refused, so much is told of the world
 abbrev pub IsTextOf : (World → Bytes → Type 0) → Bytes → Status → Bytes → Type 0
@@ -46,6 +48,7 @@ IsTextOf IsTold bytes Usage text = ⊥
 IsTextOf IsTold bytes ReadFault text = ⊥
 IsTextOf IsTold bytes WriteFault text = ⊥
 IsTextOf IsTold bytes Memory text = ⊥
+IsTextOf IsTold bytes Fails text = ⊥
 
 -- what is told of a link with these objects
 abbrev pub told_text : Told → List ObjectFile → Answer → Bytes
@@ -65,6 +68,7 @@ IsWorldText w IsTold Usage text = ⊥
 IsWorldText w IsTold ReadFault text = ⊥
 IsWorldText w IsTold WriteFault text = ⊥
 IsWorldText w IsTold Memory text = ⊥
+IsWorldText w IsTold Fails text = ⊥
 
 -- the summary of a link of the made-up world of so many members
 abbrev pub IsSummary : ℕ → Bytes → Type 0
@@ -83,6 +87,7 @@ abbrev pub IsReadText : (Bytes → Status → Bytes → Type 0) → Option Bytes
 IsReadText IsOf left Linked text = IsWholeText IsOf left Linked text
 IsReadText IsOf left Refused text = IsWholeText IsOf left Refused text
 IsReadText IsOf left Manifest text = IsWholeText IsOf left Manifest text
+IsReadText IsOf left Fails text = IsWholeText IsOf left Fails text
 IsReadText IsOf left ReadFault text = text ≡ error_line (codes "read fault")
 IsReadText IsOf left Usage text = ⊥
 IsReadText IsOf left WriteFault text = ⊥
@@ -93,6 +98,7 @@ abbrev pub text_read : Reading → Bytes → Status → Bytes → Type 0
 text_read (asked.Link workers) = IsTextOf IsReport
 text_read (asked.Why workers) = IsTextOf IsWhyReport
 text_read asked.Verdef = IsVerdefOf
+text_read asked.Check = IsCheckOf
 
 -- its number is in its range
 abbrev pub IsReadingInRange : Reading → Type 0
@@ -107,6 +113,7 @@ abbrev pub IsTextFor : List Bytes → Option Bytes → Status → Bytes → Type
 IsTextFor words left Linked text = IsTextRead words left Linked text ⊎ IsSummaryFor words text
 IsTextFor words left Refused text = IsTextRead words left Refused text
 IsTextFor words left Manifest text = IsTextRead words left Manifest text
+IsTextFor words left Fails text = IsTextRead words left Fails text
 IsTextFor words left ReadFault text = IsTextRead words left ReadFault text
 IsTextFor words left Usage text = IsNoCommand words × (text ≡ error_line (codes "usage"))
 IsTextFor words left WriteFault text = ⊥
@@ -117,6 +124,7 @@ abbrev pub IsDue : List Bytes → Option Bytes → Status → Bytes → Type 0
 IsDue words left Linked text = (IsSome left × IsTextRead words left Linked text) ⊎ IsSummaryFor words text
 IsDue words left Refused text = IsSome left × IsTextFor words left Refused text
 IsDue words left Manifest text = IsSome left × IsTextFor words left Manifest text
+IsDue words left Fails text = IsSome left × IsTextFor words left Fails text
 IsDue words left Usage text = IsTextFor words left Usage text
 IsDue words left ReadFault text = ⊥
 IsDue words left WriteFault text = ⊥
@@ -135,7 +143,7 @@ IsCutShort words left status Comes before after =
 
 -- with this status the source was read to its end
 abbrev pub ReadsAll : Status → Type 0
-ReadsAll status = (status ≡ Linked) ⊎ (status ≡ Refused)
+ReadsAll status = (status ≡ Linked) ⊎ (status ≡ Refused) ⊎ (status ≡ Fails)
 
 -- the text of this status comes of a source that didn't fail
 abbrev pub IsOfWholeSource : Status → Type 0

@@ -20,6 +20,8 @@ pub enum Command {
     Why { workers: usize },
     /// `verdef`: the version definitions that the manifest's version script makes are written.
     Verdef,
+    /// `check`: the claim that the manifest makes of the link is judged.
+    Check,
 }
 
 /// The command that these words write.
@@ -29,6 +31,7 @@ pub fn command_of(words: &[Word]) -> Option<Command>
 {
     match words {
         [name] if name.as_str() == "verdef" => Some(Command::Verdef),
+        [name] if name.as_str() == "check" => Some(Command::Check),
         [name, workers] if name.as_str() == "link" => {
             let workers = number_of(workers, MAX_WORKERS)?;
             Some(Command::Link { workers })

@@ -7,6 +7,7 @@
 
 mod answer;
 mod arguments;
+mod check;
 mod command;
 mod run;
 mod status;

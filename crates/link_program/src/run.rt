@@ -7,15 +7,16 @@ ghost use Rattle.link_core.specs.Given.{given_in_batches};
 ghost use Rattle.link_db_files.specs.Inputs.{objects_in};
 ghost use Rattle.link_input.specs.InputFiles.{batch_of};
 ghost use Rattle.link_db_texts.specs.Holds.{platform_of};
-ghost use Rattle.link_manifest.specs.Checked.{HasFewBatches, HasGroupSize, IsGroupSize};
+ghost use Rattle.link_manifest.specs.Checked.{IsGroupSize, later_count, options_of};
 ghost use Rattle.link_rules.specs.Places.{Bytes};
 ghost use Rattle.link_rules.specs.World.{world_of};
 ghost use Rattle.link_program_streams.specs.Streams.{IsAtEnd, IsCalledAtMost, GivesAtMost, Takes, Rose};
 ghost use Rattle.link_program.specs.Grammar.{IsInRange, ReadsManifest, ReadsNothing};
-ghost use Rattle.link_program.specs.Described.{given_of, objects_given, world_of_manifest};
+ghost use Rattle.link_program.specs.Described.{given_in, objects_given, world_in};
 ghost use Rattle.link_program.specs.Outcome.{IsCutShort, IsDue, IsOfWholeSource, IsReadText, IsReadingInRange, IsSummary, IsTextFor, IsToldOf, IsWorldText, IsWritten, ReadsAll, text_read, told_text};
 
 use crate::answer::{Answer, error_answer, fault_answer, refusal_answer};
+use crate::check::check_of_manifest;
 use crate::command::{Command, command_of};
 use crate::status::Status;
 use crate::verdef::verdef_of_manifest;
@@ -26,7 +27,7 @@ use link_core::link_batches;
 use link_core_answer::Linked;
 use link_input::{Inputs, Platform, World};
 use link_manifest::{
-    MAX_BYTES, Manifest, ManifestError, ManifestFault, Problem, manifest_leaking_tree,
+    MAX_BYTES, ManifestError, ManifestFault, PlatformWorld, Problem, manifest_leaking_tree,
 };
 use link_manifest_bulk::bulk_manifest;
 use link_names::Seq;
@@ -42,6 +43,7 @@ pub enum Reading {
     Link { workers: usize },
     Why { workers: usize },
     Verdef,
+    Check,
 }
 
 /// How much is told of a link.
@@ -55,8 +57,9 @@ pub enum Told {
 /// Runs the command that the words write, and writes its answer to the sink. `link` reads what the
 /// source has left as a manifest, and reports what a link of it gives; `why` reads and links it as
 /// `link` does, and writes why each object is loaded and which of several definitions counts;
-/// `verdef` reads it too, and writes the version definitions that its version script makes; `bulk`
-/// reads nothing, and sums up what a link of a made-up world gives.
+/// `verdef` reads it too, and writes the version definitions that its version script makes; `check`
+/// judges the claim that it makes of the link; `bulk` reads nothing, and sums up what a link of a
+/// made-up world gives.
 ///
 /// For every manifest and every number of workers the report that is written is exactly the one
 /// that the rules of a link give, and a link is refused exactly with the first cause that the
@@ -128,6 +131,7 @@ fn answer_to<R: Threads + Sync, S: Source>(
         }
         Some(Command::Bulk { members, workers }) => answer_to_bulk(rt, alloc, members, workers),
         Some(Command::Verdef) => answer_to_source(rt, alloc, Reading::Verdef, source),
+        Some(Command::Check) => answer_to_source(rt, alloc, Reading::Check, source),
         None => error_answer(alloc, Status::Usage, b"usage"),
     }
 }
@@ -174,10 +178,11 @@ fn answer_to_bytes<R: Threads + Sync>(
     match manifest_leaking_tree(alloc, bytes) {
         Ok(manifest) => match reading {
             Reading::Link { workers } => {
-                answer_to_manifest(rt, alloc, workers, Told::Report, manifest)
+                answer_to_manifest(rt, alloc, workers, Told::Report, manifest.world)
             }
-            Reading::Why { workers } => why_of_manifest(rt, alloc, workers, manifest),
-            Reading::Verdef => verdef_of_manifest(alloc, manifest),
+            Reading::Why { workers } => why_of_manifest(rt, alloc, workers, manifest.world),
+            Reading::Verdef => verdef_of_manifest(alloc, manifest.world),
+            Reading::Check => check_of_manifest(alloc, manifest),
         },
         Err(ManifestError::At(fault)) => fault_answer(alloc, &fault),
         Err(ManifestError::Memory) => Err(AllocError),
@@ -195,7 +200,13 @@ fn answer_to_bulk<R: Threads + Sync>(
     ensures { IfOk result (λ a. (a.status ≡ Status.Linked) × IsSummary members a.text.items) }
 {
     let manifest = bulk_manifest(alloc, members)?;
-    answer_to_manifest(rt, alloc, workers, Told::Summary { members }, manifest)
+    answer_to_manifest(
+        rt,
+        alloc,
+        workers,
+        Told::Summary { members },
+        manifest.world,
+    )
 }
 
 /// The answer to a link of what a manifest describes.
@@ -204,17 +215,17 @@ fn answer_to_manifest<R: Threads + Sync>(
     alloc: Global,
     workers: usize,
     told: Told,
-    manifest: Manifest,
+    described: PlatformWorld,
 ) -> Result<Answer, AllocError>
     requires in_range { IsInRange (Command.Link workers) }
-    requires group_size { HasGroupSize manifest }
-    requires few { HasFewBatches manifest }
-    ensures { let w = world_of_manifest manifest in
-        IfOk result (λ a. IsWorldText w (IsToldOf w (told_text told (objects_given (given_of manifest)))) a.status a.text.items) }
+    requires group_size { IsGroupSize (options_of described).files_per_group }
+    requires few { later_count described ≤ 255 }
+    ensures { let w = world_in described in
+        IfOk result (λ a. IsWorldText w (IsToldOf w (told_text told (objects_given (given_in described)))) a.status a.text.items) }
 {
-    match manifest {
-        Manifest::Elf(world) => answer_to_world(rt, alloc, workers, told, world),
-        Manifest::Mach(world) => answer_to_world(rt, alloc, workers, told, world),
+    match described {
+        PlatformWorld::Elf(world) => answer_to_world(rt, alloc, workers, told, world),
+        PlatformWorld::Mach(world) => answer_to_world(rt, alloc, workers, told, world),
     }
 }
 

@@ -9,9 +9,9 @@ use std::process::ExitCode;
 /// How a command ended.
 #[derive(Clone, Copy, Debug, PartialEq, Eq)]
 pub enum Status {
-    /// The report, the summary or the version definitions are written.
+    /// The report, the summary or the version definitions are written, or the claim holds.
     Linked,
-    /// The link or the version definitions are refused, and the cause is told.
+    /// The link, the version definitions or the check are refused, and the cause is told.
     Refused,
     /// The words are no command.
     Usage,
@@ -23,6 +23,8 @@ pub enum Status {
     WriteFault,
     /// Memory ran out, and nothing is written.
     Memory,
+    /// The claim doesn't hold, and the first part that fails is told.
+    Fails,
 }
 
 impl Status {
@@ -38,6 +40,7 @@ impl Status {
             Status::ReadFault => 4,
             Status::WriteFault => 5,
             Status::Memory => 6,
+            Status::Fails => 7,
         }
     }
 

@@ -3,15 +3,16 @@
 ghost use Rattle.std.specs.Prelude.{◌≡◌, ◌++◌, Some, None, IfOk, OnOk};
 ghost use Rattle.link_input.specs.declared.options.Options.{Options};
 ghost use Rattle.link_input.specs.declared.world.Scripts.{Scripts};
-ghost use Rattle.link_program.specs.Described.{given_of};
+ghost use Rattle.link_program.specs.Described.{given_in};
 ghost use Rattle.link_program.specs.Verdef.{hex_text, image_text, items_ending, soname_ending, verdef_ending};
 
-use crate::answer::{Answer, error_answer, fault_answer, refusal_answer};
+use crate::answer::{Answer, error_answer, refusal_answer};
+use crate::check::key_fault_answer;
 use crate::status::Status;
 use link_db_texts::given_script;
 use link_input::{Options, Scripts};
-use link_manifest::{Manifest, ManifestFault, Problem, Step};
-use link_names::{Name, Seq};
+use link_manifest::{PlatformWorld, Problem};
+use link_names::Name;
 use link_verdef::{VerdefImage, VersionItems, WriteError, items_of, write_verdef};
 use std::alloc::{AllocError, Global};
 
@@ -85,13 +86,7 @@ fn answer_of_script(
 fn answer_without_soname(alloc: Global) -> Result<Answer, AllocError>
     ensures { (options : Options) (scripts : Scripts) → IfOk result (λ a. soname_ending options scripts None ≡ (a.status, a.text.items)) }
 {
-    let mut path = Vec::new(alloc);
-    path.push(Step::Key(Name::from_slice(alloc, b"soname")?))?;
-    let fault = ManifestFault {
-        path: Seq::from_vec(path),
-        problem: Problem::Missing,
-    };
-    fault_answer(alloc, &fault)
+    key_fault_answer(alloc, b"soname", Problem::Missing)
 }
 
 /// The answer of options and texts.
@@ -105,11 +100,11 @@ fn verdef_answer(alloc: Global, options: &Options, scripts: &Scripts) -> Result<
 }
 
 /// The answer of a manifest: its version definitions, or why there are none. Its files aren't looked at.
-pub fn verdef_of_manifest(alloc: Global, manifest: Manifest) -> Result<Answer, AllocError>
-    ensures { IfOk result (λ a. verdef_ending (given_of manifest).options (given_of manifest).texts ≡ (a.status, a.text.items)) }
+pub fn verdef_of_manifest(alloc: Global, described: PlatformWorld) -> Result<Answer, AllocError>
+    ensures { IfOk result (λ a. verdef_ending (given_in described).options (given_in described).texts ≡ (a.status, a.text.items)) }
 {
-    match &manifest {
-        Manifest::Elf(world) => verdef_answer(alloc, &world.options, &world.scripts),
-        Manifest::Mach(world) => verdef_answer(alloc, &world.options, &world.scripts),
+    match &described {
+        PlatformWorld::Elf(world) => verdef_answer(alloc, &world.options, &world.scripts),
+        PlatformWorld::Mach(world) => verdef_answer(alloc, &world.options, &world.scripts),
     }
 }

@@ -7,10 +7,10 @@ ghost use Rattle.link_core_answer.specs.Seen as answer;
 ghost use Rattle.link_db_files.specs.HeldFiles.{names_in, version_of};
 ghost use Rattle.link_db_texts.specs.Holds.{platform_of};
 ghost use Rattle.link_input.specs.InputFiles.{batch_of};
-ghost use Rattle.link_manifest.specs.Checked.{HasFewBatches, HasGroupSize, IsGroupSize};
+ghost use Rattle.link_manifest.specs.Checked.{IsGroupSize, later_count, options_of};
 ghost use Rattle.link_report.specs.Why.{why_text};
 ghost use Rattle.link_rules.specs.World.{world_of};
-ghost use Rattle.link_program.specs.Described.{world_of_manifest};
+ghost use Rattle.link_program.specs.Described.{world_in};
 ghost use Rattle.link_program.specs.Grammar.{IsInRange};
 ghost use Rattle.link_program.specs.Outcome.{IsWorldText};
 ghost use Rattle.link_program.specs.Why.{IsWhyReport};
@@ -23,7 +23,7 @@ use link_claim::OpenGate;
 use link_core::link_why;
 use link_core_answer::Linked;
 use link_input::{Platform, World};
-use link_manifest::Manifest;
+use link_manifest::PlatformWorld;
 use link_report::{choices_go_by_the_names_of_files, why_text};
 use link_rules::Explanation;
 use link_script::Plain;
@@ -35,16 +35,16 @@ pub(crate) fn why_of_manifest<R: Threads + Sync>(
     rt: &R,
     alloc: Global,
     workers: usize,
-    manifest: Manifest,
+    described: PlatformWorld,
 ) -> Result<Answer, AllocError>
     requires in_range { IsInRange (Command.Why workers) }
-    requires group_size { HasGroupSize manifest }
-    requires few { HasFewBatches manifest }
-    ensures { let w = world_of_manifest manifest in IfOk result (λ a. IsWorldText w (IsWhyReport w) a.status a.text.items) }
+    requires group_size { IsGroupSize (options_of described).files_per_group }
+    requires few { later_count described ≤ 255 }
+    ensures { let w = world_in described in IfOk result (λ a. IsWorldText w (IsWhyReport w) a.status a.text.items) }
 {
-    match manifest {
-        Manifest::Elf(world) => why_of_world(rt, alloc, workers, world),
-        Manifest::Mach(world) => why_of_world(rt, alloc, workers, world),
+    match described {
+        PlatformWorld::Elf(world) => why_of_world(rt, alloc, workers, world),
+        PlatformWorld::Mach(world) => why_of_world(rt, alloc, workers, world),
     }
 }
 

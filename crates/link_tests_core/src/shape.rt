@@ -8,7 +8,7 @@ use link_input::{
     ElfLike, InputObject, Inputs, Modifiers, ObjectTable, ParsedInputObject, Place, SectionGroup,
     SymbolBinding, SymbolEntry, SymbolKind,
 };
-use link_manifest::Manifest;
+use link_manifest::PlatformWorld;
 use link_manifest_bulk::chain_manifest;
 use link_names::{Name, Seq};
 use std::alloc::{AllocError, Global};
@@ -192,9 +192,9 @@ pub(crate) fn chain_files(alloc: Global, members: usize) -> Result<Inputs<ElfLik
     requires some { 1 ≤ members }
     requires in_range { members ≤ 100000 }
 {
-    match chain_manifest(alloc, members)? {
-        Manifest::Elf(world) => Ok(world.inputs),
+    match chain_manifest(alloc, members)?.world {
+        PlatformWorld::Elf(world) => Ok(world.inputs),
         // It is for a platform like ELF.
-        Manifest::Mach(_) => Err(AllocError),
+        PlatformWorld::Mach(_) => Err(AllocError),
     }
 }

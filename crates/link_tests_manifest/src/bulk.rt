@@ -1,7 +1,7 @@
 //! That made-up links are made where memory is ample. Which objects they have is in the contracts.
 
 use link_input::{ElfLike, ParsedInputObject};
-use link_manifest::Manifest;
+use link_manifest::{Manifest, PlatformWorld};
 use link_manifest_bulk::{bulk_manifest, chain_manifest};
 use std::alloc::{AllocError, Global};
 use std::fmt::Write;
@@ -21,7 +21,7 @@ fn objects_text(
 
 /// The objects of a made-up link in words.
 fn made_text(alloc: Global, manifest: Manifest) -> Result<String, Fail> {
-    let Manifest::Elf(world) = manifest else {
+    let PlatformWorld::Elf(world) = manifest.world else {
         return Err(Fail::from("it is for another platform"));
     };
     Ok(objects_text(alloc, world.inputs.objects.as_slice())?)

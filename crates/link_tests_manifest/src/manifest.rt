@@ -1,7 +1,7 @@
 //! What no clause says: that a manifest is read with ample memory, and that the definitions say what
 //! is meant.
 
-use link_manifest::{Manifest, ManifestError, manifest_leaking_tree, manifest_of};
+use link_manifest::{Manifest, ManifestError, PlatformWorld, manifest_leaking_tree, manifest_of};
 use std::alloc::{AllocError, Global};
 use std::test::Fail;
 
@@ -46,8 +46,10 @@ fn each_fault_is_told_where_it_is(rt: HostRuntime) -> Result<(), Fail> {
 /// The platform of what is read.
 fn platform(read: Result<Manifest, ManifestError>) -> &'static str {
     match read {
-        Ok(Manifest::Elf(_)) => "elf",
-        Ok(Manifest::Mach(_)) => "macho",
+        Ok(manifest) => match manifest.world {
+            PlatformWorld::Elf(_) => "elf",
+            PlatformWorld::Mach(_) => "macho",
+        },
         Err(_) => "none",
     }
 }

@@ -8,6 +8,9 @@ returns-in-len1-clause-command c =
     let name : c.name-item.result ≡ codes "verdef" = search rules in
     (one-word c.args.words.now c.name-item.result _ one c.name-item.is name, tt)
 
+pub returns-in-len1-2-clause-command : goal.returns-in-len1-2-clause-command
+returns-in-len1-2-clause-command c = ?
+
 pub returns-in_ok-workers-in-len2-clause-command : goal.returns-in_ok-workers-in-len2-clause-command
 returns-in_ok-workers-in-len2-clause-command c =
     let two : length c.args.words.now ≡ 2 = omega (arith, c.in-len2.len_at_least, c.in-len2.len_below) in

@@ -1,7 +1,7 @@
 use Rattle.std.proofs.Common.{refl, subst}
 use Rattle.link_program_streams.proofs.Flow.{gives-at_most_nothing}
 use Rattle.link_program.specs.declared.command.Command.{Command}
-use Rattle.link_program.specs.declared.run.Reading.TheVariants.{Link, Verdef, Why}
+use Rattle.link_program.specs.declared.run.Reading.TheVariants.{Check, Link, Verdef, Why}
 use Rattle.link_program.specs.Grammar.{IsCommand}
 use Rattle.link_program.proofs.OfWorld.{bulk-text, words-text, ok-into}
 use Rattle.link_program.proofs.run.answer_to.Goals as goal
@@ -23,6 +23,12 @@ returns-in-Some-Verdef-clause-text g c =
     ok-into c.answer_to_source-in-Some-Verdef.result _ _ (λ a held. words-text c.args.words.now (g.S.Source.left c.args.source.now) a.status a.text.items
     (Verdef, subst (λ (k : Command). IsCommand c.args.words.now k) c.in-Some-Verdef.field-0-is c.in-Some-Verdef.ensures.command, held))
     c.answer_to_source-in-Some-Verdef.ensures.text
+
+pub returns-in-Some-Check-clause-text : goal.returns-in-Some-Check-clause-text
+returns-in-Some-Check-clause-text g c =
+    ok-into c.answer_to_source-in-Some-Check.result _ _ (λ a held. words-text c.args.words.now (g.S.Source.left c.args.source.now) a.status a.text.items
+    (Check, subst (λ (k : Command). IsCommand c.args.words.now k) c.in-Some-Check.field-0-is c.in-Some-Check.ensures.command, held))
+    c.answer_to_source-in-Some-Check.ensures.text
 
 pub returns-in-Some-Bulk-clause-text : goal.returns-in-Some-Bulk-clause-text
 returns-in-Some-Bulk-clause-text g c =

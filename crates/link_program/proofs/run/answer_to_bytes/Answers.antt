@@ -21,6 +21,9 @@ pub returns-in-Verdef : goal.returns-in-Verdef
 returns-in-Verdef g c = rw c.in-Verdef.is
     (ok-into c.verdef_of_manifest.result _ _ (λ a held. ap manifest_ending c.in-Ok.ensures.manifest ∙ held) c.verdef_of_manifest.ensures)
 
+pub returns-in-Check : goal.returns-in-Check
+returns-in-Check g c = rw (c.in-Check.is, c.in-Ok.ensures.manifest) c.check_of_manifest.ensures
+
 -- bytes that are no manifest
 pub returns-in-Err-At : goal.returns-in-Err-At
 returns-in-Err-At g c =

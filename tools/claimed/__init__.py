@@ -1,0 +1,1 @@
+"""The claim that the lines of `link` and `why` make."""
