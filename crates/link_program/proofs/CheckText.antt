@@ -1,5 +1,5 @@
 -- How `check` ends, by what becomes of the claim.
-use Rattle.std.proofs.Common.{◌≡◌, ◌≢◌, ◌⊎◌, ◌<◌, ◌∙◌, ℕ, List, [], ◌∷◌, Option, Some, None, Result, Ok, Err, IfOk, inl, inr, length, map, refl, sym, ap, subst, arith}
+use Rattle.std.proofs.Common.{◌≡◌, ◌≢◌, ◌⊎◌, ◌<◌, ◌∙◌, List, [], ◌∷◌, Option, Some, None, inl, inr, length, map, sym, ap, subst, arith}
 use Rattle.link_check.specs.declared.verdict.Verdict.{Verdict}
 use Rattle.link_check.specs.Verdicts.{IsVerdict}
 use Rattle.link_check_claims.specs.declared.claim.Claim.{Claim}
@@ -26,9 +26,10 @@ of-batches f w claim [] ending some ends = absurd (omega (arith, some))
 of-batches f w claim (b ∷ bs) ending some ends = ends
 
 -- without any the claim is judged
-pub of-one : {X : Type 0} (f : X → Batch) (w : World) (claim : Claim) (later : List X) (ending : Status × Bytes) → later ≡ []
+pub of-one : {X : Type 0} (f : X → Batch) (w : World) (claim : Claim) (later : List X) (ending : Status × Bytes) → length later ≡ 0
     → IsJudged w claim (opening_refusal w) ending → IsOfBatches w claim (map f later) ending
-of-one f w claim later ending none judged = subst (λ (bs : List _). IsOfBatches w claim (map f bs) ending) (sym none) judged
+of-one f w claim [] ending none judged = judged
+of-one f w claim (b ∷ bs) ending none judged = absurd (omega (arith, none))
 
 -- it ends by its verdict
 pub judged-so : (w : World) (claim : Claim) (cause : Option LinkError) (verdict : Verdict) (ending : Status × Bytes) → cause ≡ None → IsVerdict w claim verdict

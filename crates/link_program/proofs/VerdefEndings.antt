@@ -1,6 +1,6 @@
 -- How `verdef` ends, by what the calls answer that it makes.
-use Rattle.std.proofs.Common.{◌≡◌, ℕ, ◌++◌, List, [], true, Option, Some, None, Result, Ok, Err, codes, refl}
-use Rattle.std.specs.Prelude.{decimal, option_and_then}
+use Rattle.std.proofs.Common.{◌≡◌, ℕ, ◌++◌, List, [], true, Option, Some, None, Result, Ok, Err, codes, refl, sym, ap, ◌∙◌}
+use Rattle.std.specs.Prelude.{decimal, option_and_then, option_map}
 use Rattle.link_script_syntax.specs.declared.fault.Fault.{Fault}
 use Rattle.link_script_syntax.specs.declared.fault.ScriptError.{ScriptError}
 use Rattle.link_script_syntax.specs.declared.profile.ScriptProfile.{ScriptProfile}
@@ -13,9 +13,11 @@ use Rattle.link_script_syntax.proofs.Judged.{found}
 use Rattle.link_script_syntax.proofs.ScriptLaws.{script_judged}
 use Rattle.link_script.specs.declared.script.VersionScript.{VersionScript}
 use Rattle.link_script.specs.Script.{IsScriptOf}
+use Rattle.link_rules.specs.declared.refusal.LinkError.{LinkError}
 use Rattle.link_rules.specs.declared.refusal.ScriptOrigin.TheVariants as origin
 use Rattle.link_rules.specs.Places.{Bytes}
 use Rattle.link_rules.specs.Refusals.{script_cause, version_script_fault}
+use Rattle.link_rules.specs.Report.{refusal_text}
 use Rattle.link_rules.specs.Rules.{fault_in, read_or, script_of}
 use Rattle.link_verdef.specs.declared.item.VersionItem.{VersionItem}
 use Rattle.link_verdef.specs.Image.{first_with_zero}
@@ -31,6 +33,17 @@ use Rattle.link_program.specs.Verdef.{items_ending}
 pub zero-ending : (items : List VersionItem) (number : ℕ) (s : Status) (text : Bytes) → first_with_zero items ≡ Some number → s ≡ Refused
     → text ≡ error_line (codes "Zero byte in version name " ++ decimal number) → items_ending None items ≡ (s, text)
 zero-ending items number s text zero ends line = rw (zero, ends, line) refl
+
+-- ---- versions of a script that is read
+
+-- such a script is no cause, and its versions end the command
+pub read-ending : (profile : ScriptProfile) (text : Option Bytes) (items : List VersionItem) (soname : Bytes) (ending : Status × Bytes)
+    → script_cause origin.VersionScript (option_and_then (version_script_fault profile) text) ≡ None → items ≡ items_of_text (script_of profile text) soname
+    → items_ending None items ≡ ending
+    → items_ending (option_map refusal_text (script_cause origin.VersionScript (option_and_then (version_script_fault profile) text))) (items_of_text (script_of profile text) soname) ≡ ending
+read-ending profile text items soname ending none is ends =
+    ap (λ (cause : Option LinkError). items_ending (option_map refusal_text cause) (items_of_text (script_of profile text) soname)) none
+    ∙ ap (items_ending None) (sym is) ∙ ends
 
 -- ---- versions that a file can define
 

@@ -1,5 +1,5 @@
 -- What a command writes, by how it ends.
-use Rattle.std.specs.Prelude.{◌≡◌, ◌≢◌, ◌⊎◌, ℕ, List, [], ◌∷◌, ◌++◌, map, Option, IsSome, IfSome, Ok, Err, codes}
+use Rattle.std.specs.Prelude.{◌≡◌, ◌≢◌, ◌⊎◌, ℕ, List, [], ◌++◌, Option, IsSome, IfSome, Ok, Err, codes}
 use Rattle.link_manifest_bulk.specs.Bulk.{bulk_objects}
 use Rattle.link_manifest_bulk.specs.World.{bulk_world}
 use Rattle.link_rules.specs.Places.{Bytes}

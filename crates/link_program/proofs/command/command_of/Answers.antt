@@ -9,7 +9,10 @@ returns-in-len1-clause-command c =
     (one-word c.args.words.now c.name-item.result _ one c.name-item.is name, tt)
 
 pub returns-in-len1-2-clause-command : goal.returns-in-len1-2-clause-command
-returns-in-len1-2-clause-command c = ?
+returns-in-len1-2-clause-command c =
+    let one : length c.args.words.now ≡ 1 = omega (arith, c.in-len1.len_at_least, c.in-len1.len_below) in
+    let name : c.name-item-then-words-lt2.result ≡ codes "check" = search rules in
+    (one-word c.args.words.now c.name-item-then-words-lt2.result _ one c.name-item-then-words-lt2.is name, tt)
 
 pub returns-in_ok-workers-in-len2-clause-command : goal.returns-in_ok-workers-in-len2-clause-command
 returns-in_ok-workers-in-len2-clause-command c =

@@ -1,10 +1,10 @@
-use Rattle.std.proofs.Common.{◌≡◌, ◌∙◌, ◌⊎◌, List, ap, arith, length, map, subst}
+use Rattle.std.proofs.Common.{◌≡◌, ◌⊎◌, List, ap, arith, length, map, subst}
 use Rattle.link_input.specs.InputFiles.{Batch, batch_of}
 use Rattle.link_core_answer.specs.Parts.{answer_of}
 use Rattle.link_core_answer.specs.Seen as answer
 use Rattle.link_db_texts.specs.Holds.{platform_of}
 use Rattle.link_rules.specs.declared.refusal.LinkError.TheVariants.{Memory}
-use Rattle.link_rules.specs.World.{Given, World, world_of}
+use Rattle.link_rules.specs.World.{World, world_of}
 use Rattle.link_core.specs.Given.{given_in_batches}
 use Rattle.link_core.specs.Results.{IsExplainedBy, IsRefusedFor, KeepsParts, LinksTo}
 use Rattle.link_program.specs.Why.{IsWhyReport}
