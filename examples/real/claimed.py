@@ -110,10 +110,10 @@ def claim_of(program, written):
     return json.loads(with_claim)["claim"], told
 
 
-def fault_of(program, manifest, claim, due):
-    """What the program says of a claim, where that isn't what is due."""
-    written = json.dumps({**manifest, "claim": claim}).encode()
-    status, line = ran(program, ["check"], written)
+def fault_of(program, written, claim, due):
+    """What the program says of a manifest with a claim, where that isn't what is due."""
+    with_claim = written.rstrip().removesuffix(b"}") + b',"claim":' + json.dumps(claim).encode() + b"}"
+    status, line = ran(program, ["check"], with_claim)
     if (status, line) == (0 if due == "holds" else 7, f"{due}\n".encode()):
         return None
     return f"not {due!r}, but status {status} and {line.decode(errors='replace').strip()[:2000]!r}"
@@ -122,21 +122,20 @@ def fault_of(program, manifest, claim, due):
 def check_link(program, name, words, tried):
     """Checks the claims of one link, counts which changes were tried, and tells what differs; answers whether nothing does."""
     written = manifest_of(words_of_compiler(shlex.split(words.format(c=check.HERE / "c"))), Warnings())
-    manifest = json.loads(written)
     try:
         claim, told = claim_of(program, written)
     except Unreadable as fault:
         print(f"{name}: {fault}", file=sys.stderr)
         return False
     found = [f"the lines contradict one another about {one}" for one in told]
-    symbols, claims = Symbols(manifest), {"the answer": (claim, "holds")}
+    symbols, claims = Symbols(json.loads(written)), {"the answer": (claim, "holds")}
     for kind, change in CHANGES.items():
         changed = change(claim, symbols)
         if changed:
             claims[kind] = changed
             tried[kind] += 1
     for kind, (one, due) in claims.items():
-        fault = fault_of(program, manifest, one, due)
+        fault = fault_of(program, written, one, due)
         found += [f"{kind}: {fault}"] if fault else []
     sizes = f"{len(claim['loaded'])} objects, {len(claim['kept'])} groups and {len(claim['table'])} symbols claimed"
     print(f"{name}: {sizes}; {len(claims) - 1} changes tried", flush=True)
