@@ -346,10 +346,20 @@ fn are_claimed(claimed: &[bool], files: usize) -> bool {
 
 /// It lets a thread through once four have come, or after many turns.
 #[derive(Drop)]
-struct Meeting {
-    came: AtomicU64,
-    left: AtomicU64,
-    late: AtomicU64,
+pub(crate) struct Meeting {
+    pub(crate) came: AtomicU64,
+    pub(crate) left: AtomicU64,
+    pub(crate) late: AtomicU64,
+}
+
+impl Meeting {
+    pub(crate) fn new() -> Meeting {
+        Meeting {
+            came: AtomicU64::new(0),
+            left: AtomicU64::new(0),
+            late: AtomicU64::new(0),
+        }
+    }
 }
 
 impl Gate for Meeting {
@@ -371,11 +381,7 @@ impl Gate for Meeting {
 /// Whether four threads read four files, how many of them came to the gate and left it, and how many waited in vain.
 fn meet<R: Threads + Sync>(rt: &R, alloc: Global) -> Result<(bool, u64, u64, u64), AllocError> {
     let plan = Scattered::new(4, 4, false);
-    let gate = Meeting {
-        came: AtomicU64::new(0),
-        left: AtomicU64::new(0),
-        late: AtomicU64::new(0),
-    };
+    let gate = Meeting::new();
     let outcome = by_threads(rt, alloc, &gate, 4, &plan)?;
     Ok((
         are_claimed(&outcome.claimed, 4),

@@ -1,0 +1,7 @@
+use Rattle.std.proofs.Common.{ap}
+use Rattle.link_closure.specs.declared.workload.Item.{Item}
+use Rattle.link_gc_marking.proofs.Work.{item-is}
+use Rattle.link_gc_marking.proofs.plan.MarkingPlanPlan.file_of.Goals as goal
+
+pub returns : goal.returns
+returns c it has = ap (λ (t : Item). t.file) (item-is c.args.self.now.roots.now c.args.self.now.edges.items c.args.item it has).1
