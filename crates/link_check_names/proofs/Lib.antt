@@ -1,3 +1,4 @@
+pub mod Keying
 pub mod Listing
 pub mod Gathering
 pub mod Wrapping

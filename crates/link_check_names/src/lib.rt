@@ -3,9 +3,11 @@
 
 mod changes;
 mod definitions;
+mod keys;
 mod lists;
 mod names;
 mod wraps;
 
+pub use keys::name_key;
 pub use names::LinkNames;
 pub use wraps::{WrappedName, wrapped_names};

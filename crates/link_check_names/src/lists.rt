@@ -5,6 +5,7 @@ ghost use Rattle.std.specs.Str.{bytes_eq};
 ghost use Rattle.link_rules.specs.Places.{same_version};
 ghost use Rattle.link_check_names.specs.Lists.{list_in};
 
+use crate::keys::name_key;
 use link_ids::SymbolId;
 use std::alloc::{AllocError, Global};
 use std::collections::BTreeMap;
@@ -14,7 +15,7 @@ use std::marker::Model;
 /// `list_in` what is listed of one. The names are kept in order, so that no choice of names makes a look-up slow.
 #[derive(Drop)]
 pub struct NameLists<'a> {
-    lists: BTreeMap<(&'a [u8], Option<&'a [u8]>), Vec<SymbolId>>,
+    lists: BTreeMap<(u64, &'a [u8], Option<&'a [u8]>), Vec<SymbolId>>,
 }
 
 impl<'a> Model for NameLists<'a> {
@@ -39,7 +40,7 @@ impl<'a> NameLists<'a> {
     pub fn get(&self, name: &'a [u8], version: Option<&'a [u8]>) -> &[SymbolId]
         ensures { result.now ≡ list_in self.now name.now (option_map (λ v. v.now) version.entry) }
     {
-        match self.lists.get(&(name, version)) {
+        match self.lists.get(&name_key(name, version)) {
             Some(list) => list.as_slice(),
             None => &[],
         }
@@ -57,7 +58,7 @@ impl<'a> NameLists<'a> {
             ≡ (if bytes_eq name.now asked && same_version (option_map (λ v. v.now) version.entry) asked_version
             then list_in self.old asked asked_version ++ id ∷ [] else list_in self.old asked asked_version)) }
     {
-        let key = (name, version);
+        let key = name_key(name, version);
         match self.lists.get_mut(&key) {
             Some(list) => list.push(id)?,
             None => {

@@ -5,7 +5,7 @@ use Rattle.link_rules.specs.Places.{kept_if, same_version}
 use Rattle.link_rules.specs.World.{is_definition}
 use Rattle.link_check_names.specs.Lists.{list_in}
 use Rattle.link_check_names.proofs.Gathering.{plain-more}
-use Rattle.link_check_names.proofs.Listing.{seen}
+use Rattle.link_check_names.proofs.Keying.{seen}
 use Rattle.link_check_names.proofs.definitions.list_symbol.Goals as goal
 
 pub returns-clause-plain : goal.returns-clause-plain
