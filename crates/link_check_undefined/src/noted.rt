@@ -8,6 +8,7 @@ ghost use Rattle.link_rules.specs.Places.{same_version};
 ghost use Rattle.link_rules.specs.Undefined.{asks_same};
 ghost use Rattle.link_check_undefined.specs.Noted.{id_in, id_of};
 
+use link_check_names::name_key;
 use link_check_symbols::SymbolView;
 use std::alloc::{AllocError, Global};
 use std::collections::BTreeMap;
@@ -17,7 +18,7 @@ use std::marker::Model;
 /// one. The names are kept in order, so that no choice of names makes a look-up slow.
 #[derive(Drop)]
 pub struct NotedIds<'a> {
-    ids: BTreeMap<(&'a [u8], Option<&'a [u8]>), usize>,
+    ids: BTreeMap<(u64, &'a [u8], Option<&'a [u8]>), usize>,
 }
 
 impl<'a> Model for NotedIds<'a> {
@@ -42,7 +43,7 @@ impl<'a> NotedIds<'a> {
     fn get(&self, name: &'a [u8], version: Option<&'a [u8]>) -> Option<usize>
         ensures { result ≡ id_in self.now name.now (option_map (λ v. v.now) version.entry) }
     {
-        self.ids.get(&(name, version)).copied()
+        self.ids.get(&name_key(name, version)).copied()
     }
 
     /// Notes the id of a name and version, in place of one that was noted.
@@ -56,7 +57,7 @@ impl<'a> NotedIds<'a> {
             ≡ (if bytes_eq name.now asked && same_version (option_map (λ v. v.now) version.entry) asked_version then Some id
             else id_in self.old asked asked_version)) }
     {
-        self.ids.insert((name, version), id)?;
+        self.ids.insert(name_key(name, version), id)?;
         Ok(())
     }
 
