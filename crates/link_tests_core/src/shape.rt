@@ -8,7 +8,7 @@ use link_input::{
     ElfLike, InputObject, Inputs, Modifiers, ObjectTable, ParsedInputObject, Place, SectionGroup,
     SymbolBinding, SymbolEntry, SymbolKind,
 };
-use link_manifest::PlatformWorld;
+use link_manifest::{Manifest, PlatformWorld};
 use link_manifest_bulk::chain_manifest;
 use link_names::{Name, Seq};
 use std::alloc::{AllocError, Global};
@@ -192,7 +192,8 @@ pub(crate) fn chain_files(alloc: Global, members: usize) -> Result<Inputs<ElfLik
     requires some { 1 ≤ members }
     requires in_range { members ≤ 100000 }
 {
-    match chain_manifest(alloc, members)?.world {
+    let Manifest { world, claim: _ } = chain_manifest(alloc, members)?;
+    match world {
         PlatformWorld::Elf(world) => Ok(world.inputs),
         // It is for a platform like ELF.
         PlatformWorld::Mach(_) => Err(AllocError),

@@ -21,7 +21,8 @@ fn objects_text(
 
 /// The objects of a made-up link in words.
 fn made_text(alloc: Global, manifest: Manifest) -> Result<String, Fail> {
-    let PlatformWorld::Elf(world) = manifest.world else {
+    let Manifest { world, claim: _ } = manifest;
+    let PlatformWorld::Elf(world) = world else {
         return Err(Fail::from("it is for another platform"));
     };
     Ok(objects_text(alloc, world.inputs.objects.as_slice())?)

@@ -46,10 +46,18 @@ fn each_fault_is_told_where_it_is(rt: HostRuntime) -> Result<(), Fail> {
 /// The platform of what is read.
 fn platform(read: Result<Manifest, ManifestError>) -> &'static str {
     match read {
-        Ok(manifest) => match manifest.world {
-            PlatformWorld::Elf(_) => "elf",
-            PlatformWorld::Mach(_) => "macho",
-        },
+        Ok(
+            Manifest {
+                world: PlatformWorld::Elf(_),
+                claim: _,
+            },
+        ) => "elf",
+        Ok(
+            Manifest {
+                world: PlatformWorld::Mach(_),
+                claim: _,
+            },
+        ) => "macho",
         Err(_) => "none",
     }
 }
