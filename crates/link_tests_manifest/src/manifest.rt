@@ -45,20 +45,12 @@ fn each_fault_is_told_where_it_is(rt: HostRuntime) -> Result<(), Fail> {
 
 /// The platform of what is read.
 fn platform(read: Result<Manifest, ManifestError>) -> &'static str {
-    match read {
-        Ok(
-            Manifest {
-                world: PlatformWorld::Elf(_),
-                claim: _,
-            },
-        ) => "elf",
-        Ok(
-            Manifest {
-                world: PlatformWorld::Mach(_),
-                claim: _,
-            },
-        ) => "macho",
-        Err(_) => "none",
+    let Ok(Manifest { world, claim: _ }) = read else {
+        return "none";
+    };
+    match world {
+        PlatformWorld::Elf(_) => "elf",
+        PlatformWorld::Mach(_) => "macho",
     }
 }
 
