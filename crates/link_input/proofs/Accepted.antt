@@ -9,10 +9,11 @@ use Rattle.std.proofs.lemmas.List.Elements.{All-nil, All-cons, All-head, All-tai
 use Rattle.std.proofs.lemmas.List.Folds.{list_any_at}
 use Rattle.link_input.specs.declared.symbol_entry.SymbolEntry.{SymbolEntry}
 use Rattle.link_input.specs.declared.object.SectionGroup.{SectionGroup}
+use Rattle.link_input.specs.declared.object.SectionReference.{SectionReference}
 use Rattle.link_input.specs.declared.object.ObjectTable.{ObjectTable}
-use Rattle.link_input.specs.declared.table_error.TableError.TheVariants.{NullEntry, UndefinedLocal, VersionlessNotDefault, SectionRange, SignatureRange, MemberRange, HeaderTwice, HeaderIsMember}
+use Rattle.link_input.specs.declared.table_error.TableError.TheVariants.{NullEntry, UndefinedLocal, VersionlessNotDefault, SectionRange, SignatureRange, MemberRange, HeaderTwice, HeaderIsMember, ReferenceRange, RetainRange}
 use Rattle.link_input.specs.Entries.{is_undefined, is_local, section_of}
-use Rattle.link_input.specs.Checks.{first_place, is_null, lacks_null, is_undefined_local, is_versionless_not_default, is_outside, missing_section, missing_member, repeats_header, has_member_header, symbol_fault, group_fault, first_fault}
+use Rattle.link_input.specs.Checks.{first_place, is_null, lacks_null, is_undefined_local, is_versionless_not_default, is_outside, missing_section, missing_member, repeats_header, has_member_header, is_outside_reference, symbol_fault, group_fault, first_fault}
 
 -- neither of two is there
 option_or-none : {A : Type 0} (a b : Option A) → option_or a b ≡ None → (a ≡ None) × (b ≡ None)
@@ -77,9 +78,14 @@ record GroupsPass (sections symbols : ℕ) (groups : List SectionGroup) : Type 0
   once : first_place (repeats_header groups) 0 groups ≡ None
   no_member : first_place (λ i. has_member_header groups) 0 groups ≡ None
 
+-- the checks of references and of retained sections, passed
+record SectionsPass (sections symbols : ℕ) (references : List SectionReference) (retained : List ℕ) : Type 0 where
+  refer : first_place (λ i. is_outside_reference sections symbols) 0 references ≡ None
+  retain : first_place (λ i section. nat_le sections section) 0 retained ≡ None
+
 symbols_pass : (has_null : Bool) (t : ObjectTable) → first_fault has_null t ≡ None → SymbolsPass has_null t.sections t.symbols
 symbols_pass has_null t none =
-    let a = (option_or-none (symbol_fault has_null t.sections t.symbols) (group_fault t.sections (length t.symbols) t.groups) none).0 in
+    let a = (option_or-none (symbol_fault has_null t.sections t.symbols) _ none).0 in
     let b = option_or-none (if lacks_null has_null t.symbols then Some NullEntry else None) _ a in
     let c = option_or-none (option_map UndefinedLocal (first_place (is_undefined_local has_null) 0 t.symbols)) _ b.1 in
     let d = option_or-none (option_map VersionlessNotDefault (first_place (λ i. is_versionless_not_default) 0 t.symbols)) _ c.1 in
@@ -92,7 +98,7 @@ symbols_pass has_null t none =
 
 groups_pass : (has_null : Bool) (t : ObjectTable) → first_fault has_null t ≡ None → GroupsPass t.sections (length t.symbols) t.groups
 groups_pass has_null t none =
-    let a = (option_or-none (symbol_fault has_null t.sections t.symbols) (group_fault t.sections (length t.symbols) t.groups) none).1 in
+    let a = (option_or-none (group_fault t.sections (length t.symbols) t.groups) _ (option_or-none (symbol_fault has_null t.sections t.symbols) _ none).1).0 in
     let b = option_or-none (option_map SignatureRange (first_place (λ i g. nat_le (length t.symbols) g.signature_symbol) 0 t.groups)) _ a in
     let c = option_or-none (missing_member t.sections 0 t.groups) _ b.1 in
     let d = option_or-none (option_map HeaderTwice (first_place (repeats_header t.groups) 0 t.groups)) _ c.1 in
@@ -101,6 +107,15 @@ groups_pass has_null t none =
       members = c.0;
       once = option_map-none HeaderTwice _ d.0;
       no_member = option_map-none HeaderIsMember _ d.1;
+    }
+
+sections_pass : (has_null : Bool) (t : ObjectTable) → first_fault has_null t ≡ None → SectionsPass t.sections (length t.symbols) t.section_references t.retained_sections
+sections_pass has_null t none =
+    let a = (option_or-none (group_fault t.sections (length t.symbols) t.groups) _ (option_or-none (symbol_fault has_null t.sections t.symbols) _ none).1).1 in
+    let b = option_or-none (option_map ReferenceRange (first_place (λ i. is_outside_reference t.sections (length t.symbols)) 0 t.section_references)) _ a in
+    record {
+      refer = option_map-none ReferenceRange _ b.0;
+      retain = option_map-none RetainRange _ b.1;
     }
 
 -- the first symbol of a list that doesn't lack the null entry
@@ -189,3 +204,16 @@ group_inside has_null t none k g lt read =
       header = All-head (λ section. section < t.sections) _ _ sections;
       members = All-tail (λ section. section < t.sections) _ _ sections;
     })
+
+-- what refers is a section of the object, and what it refers to a symbol
+pub references_inside : (has_null : Bool) (t : ObjectTable) → first_fault has_null t ≡ None → All (λ r. (r.from < t.sections) × (r.to < length t.symbols)) t.section_references
+references_inside has_null t none = λ k d lt.
+    let r = get_or t.section_references k d in
+    let parts = or_parts (nat_le t.sections r.from) (nat_le (length t.symbols) r.to)
+    (first_place-none_pass (is_outside_reference t.sections (length t.symbols)) t.section_references ((sections_pass has_null t none).refer) k d lt) in
+    (leb-false t.sections r.from parts.0, leb-false (length t.symbols) r.to parts.1)
+
+-- a retained section is one of the object's
+pub retained_inside : (has_null : Bool) (t : ObjectTable) → first_fault has_null t ≡ None → All (λ section. section < t.sections) t.retained_sections
+retained_inside has_null t none = λ k d lt.
+    leb-false t.sections _ (first_place-none_pass (λ section. nat_le t.sections section) t.retained_sections ((sections_pass has_null t none).retain) k d lt)

@@ -1,12 +1,13 @@
--- The checks of an object's table, in their order (ELF gABI, "Symbol Table" and "Section Groups").
-use Rattle.std.specs.Prelude.{ℕ, Bool, false, ◌&&◌, ◌+◌, ◌==◌, not, is_none, nat_le, length, List, [], ◌∷◌, take, Option, Some, None, option_map, find, if◌then◌else◌}
+-- The checks of an object's table, in their order (ELF gABI, "Symbol Table", "Section Groups" and "Relocation").
+use Rattle.std.specs.Prelude.{ℕ, Bool, false, ◌&&◌, ◌||◌, ◌+◌, ◌==◌, not, is_none, nat_le, length, List, [], ◌∷◌, take, Option, Some, None, option_map, find, if◌then◌else◌}
 use Rattle.std.specs.Option.{option_or, option_map_or}
 use Rattle.std.specs.List.{list_any}
 use Rattle.link_input.specs.declared.symbol_entry.SymbolEntry.{SymbolEntry}
 use Rattle.link_input.specs.declared.object.SectionGroup.{SectionGroup}
+use Rattle.link_input.specs.declared.object.SectionReference.{SectionReference}
 use Rattle.link_input.specs.declared.object.ObjectTable.{ObjectTable}
 use Rattle.link_input.specs.declared.table_error.TableError.{TableError}
-use Rattle.link_input.specs.declared.table_error.TableError.TheVariants.{NullEntry, UndefinedLocal, VersionlessNotDefault, SectionRange, SignatureRange, MemberRange, HeaderTwice, HeaderIsMember}
+use Rattle.link_input.specs.declared.table_error.TableError.TheVariants.{NullEntry, UndefinedLocal, VersionlessNotDefault, SectionRange, SignatureRange, MemberRange, HeaderTwice, HeaderIsMember, ReferenceRange, RetainRange}
 use Rattle.link_input.specs.Entries.{is_undefined, is_local, section_of}
 use Rattle.link_input.specs.Interposition.{is_default_visibility}
 
@@ -73,6 +74,19 @@ group_fault sections symbols groups =
     (option_or (option_map HeaderTwice (first_place (repeats_header groups) 0 groups))
     (option_map HeaderIsMember (first_place (λ i. has_member_header groups) 0 groups))))
 
--- the first check that a table fails: those of its symbols, then those of its groups
+-- the section that refers, or the symbol, is none of so many
+abbrev pub is_outside_reference : ℕ → ℕ → SectionReference → Bool
+is_outside_reference sections symbols r = nat_le sections r.from || nat_le symbols r.to
+
+-- the first check that the references of the sections, of so many, to symbols, of so many, and the retained sections fail
+abbrev pub section_fault : ℕ → ℕ → List SectionReference → List ℕ → Option TableError
+section_fault sections symbols references retained =
+    option_or (option_map ReferenceRange (first_place (λ i. is_outside_reference sections symbols) 0 references))
+    (option_map RetainRange (first_place (λ i section. nat_le sections section) 0 retained))
+
+-- the first check that a table fails: those of its symbols, then those of its groups, then those of what its sections refer to and of which are retained
 abbrev pub first_fault : Bool → ObjectTable → Option TableError
-first_fault has_null t = option_or (symbol_fault has_null t.sections t.symbols) (group_fault t.sections (length t.symbols) t.groups)
+first_fault has_null t =
+    option_or (symbol_fault has_null t.sections t.symbols)
+    (option_or (group_fault t.sections (length t.symbols) t.groups)
+    (section_fault t.sections (length t.symbols) t.section_references t.retained_sections))

@@ -8,6 +8,7 @@ use Rattle.link_input.specs.declared.symbol_entry.SymbolBinding.{SymbolBinding}
 use Rattle.link_input.specs.declared.symbol_entry.SymbolBinding.TheVariants.{Local, Global}
 use Rattle.link_input.specs.declared.symbol_entry.SymbolKind.TheVariants.{Plain}
 use Rattle.link_input.specs.declared.object.SectionGroup.{SectionGroup}
+use Rattle.link_input.specs.declared.object.SectionReference.{SectionReference}
 use Rattle.link_input.specs.declared.object.ObjectTable.{ObjectTable}
 
 -- an entry of no version
@@ -36,4 +37,12 @@ group_of header members = record { index = header; signature_symbol = 1; is_comd
 
 -- the table of a regular object
 abbrev pub table_of : ℕ → List SymbolEntry → List SectionGroup → ObjectTable
-table_of sections symbols groups = record { is_dynamic = false; lib_name = codes "a.o"; sections = sections; symbols = symbols; groups = groups }
+table_of sections symbols groups = record { is_dynamic = false; lib_name = codes "a.o"; sections = sections; symbols = symbols; groups = groups; section_references = []; retained_sections = [] }
+
+-- a section refers to a symbol
+abbrev pub reference_of : ℕ → ℕ → SectionReference
+reference_of section symbol = record { from = section; to = symbol }
+
+-- a table of sections that refer to symbols, of which some are retained
+abbrev pub referring : List SectionReference → List ℕ → ObjectTable → ObjectTable
+referring references retained t = record t { section_references = references; retained_sections = retained }

@@ -4,9 +4,9 @@ ghost use Rattle.std.specs.Prelude.{◌≡◌, ◌==◌, ◌||◌, ℕ, IfOk, On
 ghost use Rattle.std.specs.Ordering.{nat_cmp};
 ghost use Rattle.std.specs.List.{list_any};
 ghost use Rattle.std.specs.BTreeSet.{contains};
-ghost use Rattle.link_input.specs.Checks.{first_place, lacks_null, is_undefined_local, is_versionless_not_default, is_outside, missing_section, missing_member, repeats_header, has_member_header, is_member, symbol_fault, group_fault, first_fault};
+ghost use Rattle.link_input.specs.Checks.{first_place, lacks_null, is_undefined_local, is_versionless_not_default, is_outside, missing_section, missing_member, repeats_header, has_member_header, is_member, is_outside_reference, symbol_fault, group_fault, section_fault, first_fault};
 
-use crate::object::{ObjectTable, SectionGroup};
+use crate::object::{ObjectTable, SectionGroup, SectionReference};
 use crate::symbol_entry::{Place, SymbolEntry};
 use crate::table_error::TableError;
 use std::alloc::{AllocError, Global};
@@ -24,12 +24,13 @@ pub fn first_fault(
     if let Some(fault) = symbol_fault(has_null, table.sections, symbols) {
         return Ok(Some(fault));
     }
-    group_fault(
-        alloc,
-        table.sections,
-        symbols.len(),
-        table.groups.as_slice(),
-    )
+    let groups = table.groups.as_slice();
+    if let Some(fault) = group_fault(alloc, table.sections, symbols.len(), groups)? {
+        return Ok(Some(fault));
+    }
+    let references = table.section_references.as_slice();
+    let retained = table.retained_sections.as_slice();
+    Ok(section_fault(table.sections, symbols.len(), references, retained))
 }
 
 /// The first check that the symbols fail.
@@ -73,6 +74,24 @@ fn group_fault(
         return Ok(Some(TableError::HeaderIsMember(group)));
     }
     Ok(None)
+}
+
+/// The first check that the references of sections and the retained ones fail.
+fn section_fault(
+    sections: u32,
+    symbols: usize,
+    references: &[SectionReference],
+    retained: &[u32],
+) -> Option<TableError>
+    ensures { result ≡ section_fault sections symbols references.now retained.now }
+{
+    if let Some(reference) = outside_reference(sections, symbols, references) {
+        return Some(TableError::ReferenceRange(reference));
+    }
+    if let Some(place) = outside_retained(sections, retained) {
+        return Some(TableError::RetainRange(place));
+    }
+    None
 }
 
 /// Entry 0 is there and is to stand for no symbol, and doesn't.
@@ -170,6 +189,34 @@ fn first_outside(sections: u32, members: &[u32]) -> Option<u32>
     ensures { result ≡ find (λ n. nat_le sections n) members.now }
 {
     members.iter().copied().find(|member| sections <= *member)
+}
+
+/// The first reference whose section or symbol isn't there.
+fn outside_reference(
+    sections: u32,
+    symbols: usize,
+    references: &[SectionReference],
+) -> Option<usize>
+    ensures { result ≡ first_place (λ i. is_outside_reference sections symbols) 0 references.now }
+{
+    for (i, reference) in references.iter().enumerate() {
+        if sections <= reference.from || symbols <= reference.to as usize {
+            return Some(i);
+        }
+    }
+    None
+}
+
+/// The place of the first retained section that isn't there.
+fn outside_retained(sections: u32, retained: &[u32]) -> Option<usize>
+    ensures { result ≡ first_place (λ i section. nat_le sections section) 0 retained.now }
+{
+    for (i, section) in retained.iter().enumerate() {
+        if sections <= *section {
+            return Some(i);
+        }
+    }
+    None
 }
 
 /// The first group whose header heads an earlier one.

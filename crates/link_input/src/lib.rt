@@ -33,7 +33,7 @@ pub use builder::InternalSymbolsBuilder;
 pub use internal_symbols::{
     InternalSymDefInfo, LocationCounter, Redirect, RedirectKind, SymbolLoc, SymbolPlacement,
 };
-pub use object::{InputObject, ObjectTable, SectionGroup};
+pub use object::{InputObject, ObjectTable, SectionGroup, SectionReference};
 pub use options::{Options, OutputKind};
 pub use parsed_object::{Modifiers, ParsedInputObject};
 pub use platform::{ElfLike, MachLike, Platform};

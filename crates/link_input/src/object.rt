@@ -39,6 +39,16 @@ impl SectionGroup {
     }
 }
 
+/// A section refers to a symbol, as the relocations of the section do (ELF gABI, "Relocation"). One reference stands for all
+/// relocations of the section that name the symbol.
+#[derive(Clone, Copy, Debug, PartialEq, Eq)]
+pub struct SectionReference {
+    /// The section whose contents need the symbol.
+    pub from: u32,
+    /// The place of the symbol in the object's table.
+    pub to: u32,
+}
+
 /// What is read of an object: a regular one, or a shared object.
 #[derive(Debug, Drop)]
 pub struct ObjectTable {
@@ -50,6 +60,10 @@ pub struct ObjectTable {
     pub sections: u32,
     pub symbols: Seq<SymbolEntry>,
     pub groups: Seq<SectionGroup>,
+    /// What its sections refer to, for `--gc-sections`.
+    pub section_references: Seq<SectionReference>,
+    /// The sections that `--gc-sections` keeps whatever refers to them, such as those with `SHF_GNU_RETAIN` or in `KEEP`.
+    pub retained_sections: Seq<u32>,
 }
 
 /// The table of an object of a platform, once it is checked, with its symbols in columns. A contract sees the table.
@@ -60,6 +74,8 @@ pub struct InputObject<P: Platform> {
     sections: u32,
     symbols: SymbolColumns,
     groups: Seq<SectionGroup>,
+    section_references: Seq<SectionReference>,
+    retained_sections: Seq<u32>,
     platform: PhantomData<P>,
 }
 
@@ -70,10 +86,10 @@ impl<P: Platform> Model for InputObject<P> {
 
     ghost Value = { ObjectTable };
 
-    ghost view = { λ o. record { is_dynamic = o.is_dynamic; lib_name = o.lib_name; sections = o.sections; symbols = o.symbols; groups = o.groups } };
+    ghost view = { λ o. record { is_dynamic = o.is_dynamic; lib_name = o.lib_name; sections = o.sections; symbols = o.symbols; groups = o.groups; section_references = o.section_references; retained_sections = o.retained_sections } };
 
     ghost invariant = { λ o. first_fault P.HAS_NULL_SYMBOL_ENTRY
-        (record { is_dynamic = o.is_dynamic; lib_name = o.lib_name; sections = o.sections; symbols = o.symbols; groups = o.groups }) ≡ None };
+        (record { is_dynamic = o.is_dynamic; lib_name = o.lib_name; sections = o.sections; symbols = o.symbols; groups = o.groups; section_references = o.section_references; retained_sections = o.retained_sections }) ≡ None };
 }
 
 impl<P: Platform> InputObject<P> {
@@ -88,8 +104,12 @@ impl<P: Platform> InputObject<P> {
     /// 6. `MemberRange { group, section }`: the group's header, else its first such member, is not below the number of sections.
     /// 7. `HeaderTwice(group)`: the group's header is the header of an earlier group.
     /// 8. `HeaderIsMember(group)`: the group's header is a member of a group, of itself or of another.
+    /// 9. `ReferenceRange(reference)`: the section that refers is not below the number of sections, or the symbol is not
+    ///    below the number of symbols.
+    /// 10. `RetainRange(place)`: the retained section at this place of their list is not below the number of sections.
     ///
-    /// `Memory` may come in place of any answer, where memory ran out. A table of no symbols and no groups passes.
+    /// `Memory` may come in place of any answer, where memory ran out. A table of no symbols, no groups, no references and
+    /// no retained sections passes.
     pub fn new(alloc: Global, table: ObjectTable) -> Result<Self, TableError>
         ensures ok { IfOk result (λ object. object ≡ table) }
         ensures checked { OnOk result (first_fault P.HAS_NULL_SYMBOL_ENTRY table ≡ None) }
@@ -104,6 +124,8 @@ impl<P: Platform> InputObject<P> {
             sections,
             symbols,
             groups,
+            section_references,
+            retained_sections,
         } = table;
         Ok(InputObject {
             is_dynamic,
@@ -111,6 +133,8 @@ impl<P: Platform> InputObject<P> {
             sections,
             symbols: SymbolColumns::from_entries(alloc, symbols.as_slice())?,
             groups,
+            section_references,
+            retained_sections,
             platform: PhantomData,
         })
     }
@@ -148,6 +172,23 @@ impl<P: Platform> InputObject<P> {
         ensures { result.now ≡ self.now.groups }
     {
         self.groups.as_slice()
+    }
+
+    /// What its sections refer to, in the order of the table: sections and symbols of the object.
+    pub fn section_references(&self) -> &[SectionReference]
+        ensures references { result.now ≡ self.now.section_references }
+        ensures from { All (λ r. r.from < self.now.sections) result.now }
+        ensures to { All (λ r. r.to < length self.now.symbols) result.now }
+    {
+        self.section_references.as_slice()
+    }
+
+    /// The sections that are kept whatever refers to them, in the order of the table: sections of the object.
+    pub fn retained_sections(&self) -> &[u32]
+        ensures sections { result.now ≡ self.now.retained_sections }
+        ensures below { All (λ section. section < self.now.sections) result.now }
+    {
+        self.retained_sections.as_slice()
     }
 
     /// The entry at this place of its symbol table. `num_symbols` is the test.
@@ -231,6 +272,8 @@ impl<P: Platform> Part for InputObject<P> {
             sections: self.sections,
             symbols: self.symbols.try_copy(alloc)?,
             groups: self.groups.try_copy(alloc)?,
+            section_references: self.section_references.try_copy(alloc)?,
+            retained_sections: self.retained_sections.try_copy(alloc)?,
             platform: PhantomData,
         })
     }
@@ -240,6 +283,8 @@ impl<P: Platform> Part for InputObject<P> {
             && self.sections == other.sections
             && self.lib_name.same(&other.lib_name)
             && self.groups.same(&other.groups)
+            && self.section_references.same(&other.section_references)
+            && self.retained_sections.same(&other.retained_sections)
             && self.symbols.same(&other.symbols)
     }
 }

@@ -2,7 +2,7 @@
 
 ghost use Rattle.std.specs.Prelude.{◌≡◌, ◌↔◌, IfOk, IsTrue};
 
-use crate::object::SectionGroup;
+use crate::object::{SectionGroup, SectionReference};
 use crate::parsed_object::ParsedInputObject;
 use crate::parts::Part;
 use crate::platform::Platform;
@@ -86,6 +86,16 @@ impl Part for SectionGroup {
             && self.signature_symbol == other.signature_symbol
             && self.is_comdat == other.is_comdat
             && self.members.same(&other.members)
+    }
+}
+
+impl Part for SectionReference {
+    fn try_copy(&self, _alloc: Global) -> Result<Self, AllocError> {
+        Ok(*self)
+    }
+
+    fn same(&self, other: &Self) -> bool {
+        *self == *other
     }
 }
 

@@ -7,7 +7,7 @@ ghost use Rattle.link_input.specs.TableErrorText.{table_error_text};
 use std::alloc::AllocError;
 use std::fmt;
 
-/// The first check that the table of an object fails. Symbols and groups are told by their places, from 0; each check
+/// The first check that the table of an object fails. Symbols, groups and references are told by their places, from 0; each check
 /// is over the whole table before the next, in this order, and tells the least place.
 #[derive(Clone, Copy, Debug, PartialEq, Eq)]
 pub enum TableError {
@@ -27,6 +27,10 @@ pub enum TableError {
     HeaderTwice(usize),
     /// The header of the group is a member of a group.
     HeaderIsMember(usize),
+    /// The reference is of a section, or to a symbol, that the object lacks.
+    ReferenceRange(usize),
+    /// The retained section at this place of their list is one that the object lacks.
+    RetainRange(usize),
     /// Memory ran out. It may come in place of any other answer.
     Memory,
 }
@@ -80,6 +84,12 @@ impl fmt::Display for TableError {
             TableError::MemberRange { group, section } => write_member_range(f, *group, *section),
             TableError::HeaderTwice(group) => write!(f, "group {group} repeats a header"),
             TableError::HeaderIsMember(group) => write_member_header(f, *group),
+            TableError::ReferenceRange(reference) => {
+                write!(f, "section reference {reference} is out of range")
+            }
+            TableError::RetainRange(place) => {
+                write!(f, "retained section {place} is out of range")
+            }
             TableError::Memory => f.write_str("out of memory"),
         }
     }

@@ -3,10 +3,10 @@
 ghost use Rattle.std.specs.Prelude.{◌≡◌, ◌≢◌, ◌<◌, ◌∷◌, ℕ, Bool, true, false, [], Some, None, IsTrue, IfSome, All, AllPairs, Contains, length, is_none, slice_get};
 ghost use Rattle.link_input.specs.declared.symbol_entry.SymbolEntry.{SymbolEntry};
 ghost use Rattle.link_input.specs.declared.object.ObjectTable.{ObjectTable};
-ghost use Rattle.link_input.specs.declared.table_error.TableError.TheVariants.{NullEntry, UndefinedLocal, VersionlessNotDefault, SectionRange, SignatureRange, MemberRange, HeaderTwice, HeaderIsMember};
+ghost use Rattle.link_input.specs.declared.table_error.TableError.TheVariants.{NullEntry, UndefinedLocal, VersionlessNotDefault, SectionRange, SignatureRange, MemberRange, HeaderTwice, HeaderIsMember, ReferenceRange, RetainRange};
 ghost use Rattle.link_input.specs.Entries.{is_undefined, is_local, section_of};
 ghost use Rattle.link_input.specs.Checks.{is_null, first_fault};
-ghost use Rattle.link_input.specs.TableExamples.{no_symbol, undefined_local, undefined_global, defined_in, group_of, table_of};
+ghost use Rattle.link_input.specs.TableExamples.{no_symbol, undefined_local, undefined_global, defined_in, group_of, reference_of, referring, table_of};
 
 /// What a table keeps that passes all checks, whatever its platform: a fact for each check.
 pub fn accepted_tables()
@@ -27,6 +27,10 @@ pub fn accepted_tables()
         AllPairs (λ group later. group.index ≢ later.index) t.groups }
     ensures header_no_member { (has_null : Bool) (t : ObjectTable) → first_fault has_null t ≡ None →
         All (λ group. All (λ other. ¬ (Contains other.members group.index)) t.groups) t.groups }
+    ensures references { (has_null : Bool) (t : ObjectTable) → first_fault has_null t ≡ None →
+        All (λ r. (r.from < t.sections) × (r.to < length t.symbols)) t.section_references }
+    ensures retained { (has_null : Bool) (t : ObjectTable) → first_fault has_null t ≡ None →
+        All (λ section. section < t.sections) t.retained_sections }
 {}
 
 /// Worked examples, which the checker computes: what the checks say of small tables, on a platform that has a null entry
@@ -50,6 +54,10 @@ pub fn checked_tables()
         ≡ Some (HeaderIsMember 1) }
     ensures header_in_another { first_fault true (table_of 3 (no_symbol ∷ undefined_global ∷ []) (group_of 1 [] ∷ group_of 2 (1 ∷ []) ∷ []))
         ≡ Some (HeaderIsMember 0) }
+    ensures reference_from { first_fault true (referring (reference_of 1 0 ∷ reference_of 2 0 ∷ []) [] (table_of 2 (no_symbol ∷ []) [])) ≡ Some (ReferenceRange 1) }
+    ensures reference_to { first_fault true (referring (reference_of 1 1 ∷ []) (9 ∷ []) (table_of 2 (no_symbol ∷ []) [])) ≡ Some (ReferenceRange 0) }
+    ensures retain_range { first_fault true (referring (reference_of 1 0 ∷ []) (1 ∷ 2 ∷ []) (table_of 2 (no_symbol ∷ []) [])) ≡ Some (RetainRange 1) }
+    ensures references_accepted { first_fault true (referring (reference_of 0 0 ∷ reference_of 1 0 ∷ []) (0 ∷ 1 ∷ []) (table_of 2 (no_symbol ∷ []) [])) ≡ None }
     // Symbol 1 stands in a section that isn't there; the check that symbol 2 fails comes earlier.
     ensures earlier_check { first_fault true (table_of 1 (no_symbol ∷ defined_in 7 ∷ undefined_local ∷ []) []) ≡ Some (UndefinedLocal 2) }
     ensures empty { first_fault true (table_of 0 [] []) ≡ None }

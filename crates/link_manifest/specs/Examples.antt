@@ -26,7 +26,7 @@ global_symbol name place = record { name = name; version = None; is_default = tr
 abbrev pub regular_object : List ℕ → ℕ → List SymbolEntry → List SectionGroup → ObjectFile
 regular_object name sections symbols groups = record {
   input = name;
-  object = record { is_dynamic = false; lib_name = name; sections = sections; symbols = symbols; groups = groups };
+  object = record { is_dynamic = false; lib_name = name; sections = sections; symbols = symbols; groups = groups; section_references = []; retained_sections = [] };
   modifiers = record { archive = false; whole_archive = false; as_needed = false };
 }
 

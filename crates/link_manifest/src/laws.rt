@@ -64,13 +64,13 @@ pub fn read_object_keys()
     ensures shared { manifest_of (codes "{\"platform\":\"macho\",\"objects\":[{\"name\":\"m\",\"dynamic\":true,\"as_needed\":true,\"lib_name\":\"l\"}]}")
         ≡ Ok (mach_manifest (of_objects default_options (record {
           input = codes "m";
-          object = record { is_dynamic = true; lib_name = codes "l"; sections = 0; symbols = []; groups = [] };
+          object = record { is_dynamic = true; lib_name = codes "l"; sections = 0; symbols = []; groups = []; section_references = []; retained_sections = [] };
           modifiers = record { archive = false; whole_archive = false; as_needed = true };
         } ∷ []))) }
     ensures member { manifest_of (codes "{\"platform\":\"macho\",\"objects\":[{\"name\":\"m\",\"archive\":true,\"whole_archive\":true}]}")
         ≡ Ok (mach_manifest (of_objects default_options (record {
           input = codes "m";
-          object = record { is_dynamic = false; lib_name = codes "m"; sections = 0; symbols = []; groups = [] };
+          object = record { is_dynamic = false; lib_name = codes "m"; sections = 0; symbols = []; groups = []; section_references = []; retained_sections = [] };
           modifiers = record { archive = true; whole_archive = true; as_needed = false };
         } ∷ []))) }
 {}

@@ -1,7 +1,7 @@
-//! The objects of a manifest, and their section groups.
+//! The objects of a manifest, their section groups, and what their sections refer to.
 
 ghost use Rattle.link_manifest_json.specs.Tree.{view};
-ghost use Rattle.link_manifest.specs.Objects.{group_read, object_keys, object_read};
+ghost use Rattle.link_manifest.specs.Objects.{group_read, kept_sections_read, modifiers_read, section_reference_read, object_keys, object_read};
 ghost use Rattle.link_manifest.specs.Reading.{object_of_keys, Reads};
 
 use crate::contents::UncheckedObject;
@@ -10,7 +10,7 @@ use crate::reading::{Readable, object_of_keys, optional, optional_list, required
 use crate::symbols::{Table, entries_before};
 use crate::values::{Bytes, Flag, Number, Text};
 use json::Value;
-use link_input::{Modifiers, ObjectTable, Platform, SectionGroup};
+use link_input::{Modifiers, ObjectTable, Platform, SectionGroup, SectionReference};
 use link_names::Seq;
 use std::alloc::Global;
 use std::marker::PhantomData;
@@ -38,6 +38,22 @@ impl Readable for Group {
     }
 }
 
+/// What a section refers to.
+struct Reference;
+
+impl Readable for Reference {
+    type Read = SectionReference;
+
+    ghost read = { section_reference_read };
+
+    fn read(alloc: Global, value: &Value<'_>) -> Result<SectionReference, ManifestError> {
+        object_of_keys(alloc, value, &["from", "to"])?;
+        let from = required::<Number>(alloc, value, "from")?;
+        let to = required::<Number>(alloc, value, "to")?;
+        Ok(SectionReference { from, to })
+    }
+}
+
 /// The value is a JSON object that has no other keys than an object of a link.
 fn known_keys(alloc: Global, value: &Value<'_>) -> Result<(), ManifestError>
     ensures { Reads result (object_of_keys object_keys (view value.now)) }
@@ -55,8 +71,36 @@ fn known_keys(alloc: Global, value: &Value<'_>) -> Result<(), ManifestError>
             "sections",
             "symbols",
             "groups",
+            "section_refs",
+            "retain",
         ],
     )
+}
+
+/// How the linker was told to take the object.
+fn modifiers(alloc: Global, value: &Value<'_>) -> Result<Modifiers, ManifestError>
+    ensures { Reads result (modifiers_read (view value.now)) }
+{
+    let archive = optional::<Flag>(alloc, value, "archive", false)?;
+    let whole_archive = optional::<Flag>(alloc, value, "whole_archive", false)?;
+    let as_needed = optional::<Flag>(alloc, value, "as_needed", false)?;
+    Ok(Modifiers {
+        archive,
+        whole_archive,
+        as_needed,
+    })
+}
+
+/// What the object's sections refer to, and those that are kept in any case.
+fn kept_sections(
+    alloc: Global,
+    value: &Value<'_>,
+) -> Result<(Seq<SectionReference>, Seq<u32>), ManifestError>
+    ensures { Reads result (kept_sections_read (view value.now)) }
+{
+    let section_references = optional_list::<Reference>(alloc, value, "section_refs")?;
+    let retained_sections = optional_list::<Number>(alloc, value, "retain")?;
+    Ok((section_references, retained_sections))
 }
 
 /// An object of a platform.
@@ -73,14 +117,13 @@ impl<P: Platform> Readable for Object<P> {
         known_keys(alloc, value)?;
         let input = required::<Text>(alloc, value, "name")?;
         let is_dynamic = optional::<Flag>(alloc, value, "dynamic", false)?;
-        let archive = optional::<Flag>(alloc, value, "archive", false)?;
-        let whole_archive = optional::<Flag>(alloc, value, "whole_archive", false)?;
-        let as_needed = optional::<Flag>(alloc, value, "as_needed", false)?;
+        let modifiers = modifiers(alloc, value)?;
         let lib_name = optional::<Bytes>(alloc, value, "lib_name", input.clone()?)?;
         let sections = optional::<Number>(alloc, value, "sections", 0)?;
         let no_symbols = Seq::from_vec(entries_before::<P>(alloc)?);
         let symbols = optional::<Table<P>>(alloc, value, "symbols", no_symbols)?;
         let groups = optional_list::<Group>(alloc, value, "groups")?;
+        let (section_references, retained_sections) = kept_sections(alloc, value)?;
         Ok(UncheckedObject {
             input,
             table: ObjectTable {
@@ -89,12 +132,10 @@ impl<P: Platform> Readable for Object<P> {
                 sections,
                 symbols,
                 groups,
+                section_references,
+                retained_sections,
             },
-            modifiers: Modifiers {
-                archive,
-                whole_archive,
-                as_needed,
-            },
+            modifiers,
         })
     }
 }

@@ -20,12 +20,12 @@ reference_on members i = if nat_lt i members then global_entry (chained_name (i 
 
 -- what is read of the object that asks for the first member
 abbrev pub chain_start_table : ObjectTable
-chain_start_table = record { is_dynamic = false; lib_name = main_file; sections = 0; symbols = null_entry ∷ global_entry (chained_name 1) Undefined ∷ []; groups = [] }
+chain_start_table = record { is_dynamic = false; lib_name = main_file; sections = 0; symbols = null_entry ∷ global_entry (chained_name 1) Undefined ∷ []; groups = []; section_references = []; retained_sections = [] }
 
 -- what is read of member i of so many
 abbrev pub chain_member_table : ℕ → ℕ → ObjectTable
 chain_member_table members i =
-    record { is_dynamic = false; lib_name = member_file i; sections = 2; symbols = null_entry ∷ global_entry (chained_name i) (Section 1) ∷ reference_on members i; groups = [] }
+    record { is_dynamic = false; lib_name = member_file i; sections = 2; symbols = null_entry ∷ global_entry (chained_name i) (Section 1) ∷ reference_on members i; groups = []; section_references = []; retained_sections = [] }
 
 -- the object at a place: the one that is linked in any case, and behind it the members from 1 on
 abbrev pub chain_object : ℕ → ℕ → ObjectFile

@@ -36,8 +36,8 @@ shared_group = record { index = 3; signature_symbol = 2; is_comdat = true; membe
 
 -- what is read of member i
 abbrev pub member_table : ℕ → ℕ → ObjectTable
-member_table members i = record { is_dynamic = false; lib_name = member_file i; sections = 4; symbols = member_symbols members i; groups = shared_group ∷ [] }
+member_table members i = record { is_dynamic = false; lib_name = member_file i; sections = 4; symbols = member_symbols members i; groups = shared_group ∷ []; section_references = []; retained_sections = [] }
 
 -- what is read of the object that asks for the first member
 abbrev pub main_table : ObjectTable
-main_table = record { is_dynamic = false; lib_name = main_file; sections = 0; symbols = null_entry ∷ global_entry (own_name 1) Undefined ∷ []; groups = [] }
+main_table = record { is_dynamic = false; lib_name = main_file; sections = 0; symbols = null_entry ∷ global_entry (own_name 1) Undefined ∷ []; groups = []; section_references = []; retained_sections = [] }

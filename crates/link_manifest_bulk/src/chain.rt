@@ -33,6 +33,8 @@ fn chain_start_table(alloc: Global) -> Result<ObjectTable, AllocError>
         sections: 0,
         symbols,
         groups: Seq::new(alloc),
+        section_references: Seq::new(alloc),
+        retained_sections: Seq::new(alloc),
     })
 }
 
@@ -57,6 +59,8 @@ fn chain_member_table(
         sections: 2,
         symbols,
         groups: Seq::new(alloc),
+        section_references: Seq::new(alloc),
+        retained_sections: Seq::new(alloc),
     })
 }
 

@@ -119,6 +119,8 @@ pub(crate) fn member_table(
         sections: 4,
         symbols: member_symbols(alloc, members, member)?,
         groups,
+        section_references: Seq::new(alloc),
+        retained_sections: Seq::new(alloc),
     })
 }
 
@@ -135,5 +137,7 @@ pub(crate) fn main_table(alloc: Global) -> Result<ObjectTable, AllocError>
         sections: 0,
         symbols,
         groups: Seq::new(alloc),
+        section_references: Seq::new(alloc),
+        retained_sections: Seq::new(alloc),
     })
 }

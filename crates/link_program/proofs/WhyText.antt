@@ -28,7 +28,7 @@ GoesByNames held = (l : Selection) (roots : List FoundRoot) (e : Explanation) �
 -- the names and versions that the files hold are those of the symbols of which the explanation tells
 pub explained-text : {P : Type 0} (w : World) (x : Parts P) (e : Explanation) (s : Status) (text : Bytes) → GoesByNames x.db.mapping.files → IsLinked w (answer_of x) → HasParts w x → IsExplanation w e → s ≡ Linked
     → text ≡ why_text (λ (i : ℕ). slice_index_or (names_in x.db.mapping.files) i []) (version_of x.db.mapping.files) e → IsWorldText w (IsWhyReport w) s text
-explained-text w x e s text by_names linked (l, selects, kept) (ws, k, passes, is) ends line =
+explained-text w x e s text by_names linked (l, selects, kept, roots) (ws, k, passes, is) ends line =
     let same = passes-with w ws k l passes selects.ends in
     let symbols : symbols_in x.db.mapping.files.groups ≡ k.stage.symbols = kept.symbols ∙ ap (λ (y : Selection). y.stage.symbols) (sym same) in
     subst (λ (t : Status). IsWorldText w (IsWhyReport w) t text) (sym ends)

@@ -161,6 +161,8 @@ pub(crate) fn object_of(
         sections: 3,
         symbols: Seq::from_vec(entries),
         groups: groups_of(alloc, is_comdat)?,
+        section_references: Seq::new(alloc),
+        retained_sections: Seq::new(alloc),
     };
     // Each table passes every check, so what is refused is want of memory.
     let Ok(object) = InputObject::new(alloc, table) else {

@@ -108,6 +108,8 @@ fn object_with(alloc: Global, input: Name, symbols: Seq<SymbolEntry>) -> TableOf
             sections: 1,
             symbols,
             groups: Seq::new(alloc),
+            section_references: Seq::new(alloc),
+            retained_sections: Seq::new(alloc),
         },
     }
 }

@@ -78,6 +78,8 @@ pub(crate) fn batch_of(
         sections: 2,
         symbols: entries_of(alloc, has)?,
         groups: Seq::new(alloc),
+        section_references: Seq::new(alloc),
+        retained_sections: Seq::new(alloc),
     };
     let modifiers = Modifiers {
         archive,

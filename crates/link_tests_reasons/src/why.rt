@@ -54,6 +54,8 @@ fn table(alloc: Global, symbols: &[(&[u8], bool)]) -> Result<ObjectTable, AllocE
         sections: 2,
         symbols: entries,
         groups: Seq::new(alloc),
+        section_references: Seq::new(alloc),
+        retained_sections: Seq::new(alloc),
     })
 }
 

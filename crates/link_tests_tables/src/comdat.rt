@@ -41,6 +41,8 @@ fn table(alloc: Global) -> Result<ObjectTable, AllocError> {
         sections: 3,
         symbols: symbols(alloc)?,
         groups: groups(alloc)?,
+        section_references: Seq::new(alloc),
+        retained_sections: Seq::new(alloc),
     })
 }
 

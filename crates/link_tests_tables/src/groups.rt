@@ -25,6 +25,8 @@ fn table(alloc: Global, symbols: usize, sections: u32) -> Result<ObjectTable, Al
         sections,
         symbols: entries,
         groups: Seq::new(alloc),
+        section_references: Seq::new(alloc),
+        retained_sections: Seq::new(alloc),
     })
 }
 

@@ -104,6 +104,8 @@ fn a_table_is_kept(rt: HostRuntime) -> Result<(), Fail> {
         sections: 3,
         symbols: Seq::new(alloc),
         groups: Seq::new(alloc),
+        section_references: Seq::new(alloc),
+        retained_sections: Seq::new(alloc),
     };
     let kept = InputObject::<MachLike>::new(alloc, table);
     assert!(rt; kept.is_ok());

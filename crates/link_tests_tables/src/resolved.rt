@@ -23,6 +23,8 @@ fn table(alloc: Global, is_dynamic: bool) -> Result<ObjectTable, AllocError> {
         sections: 1,
         symbols: Seq::new(alloc),
         groups: Seq::new(alloc),
+        section_references: Seq::new(alloc),
+        retained_sections: Seq::new(alloc),
     })
 }
 

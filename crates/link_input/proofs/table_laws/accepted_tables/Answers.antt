@@ -1,4 +1,4 @@
-use Rattle.link_input.proofs.Accepted.{null_entry, undefined_local, versionless_default, section_inside, signature_inside, members_inside, header_once, header_no_member}
+use Rattle.link_input.proofs.Accepted.{null_entry, undefined_local, versionless_default, section_inside, signature_inside, members_inside, header_once, header_no_member, references_inside, retained_inside}
 use Rattle.link_input.proofs.table_laws.accepted_tables.Goals as goal
 
 pub returns-clause-null_entry : goal.returns-clause-null_entry
@@ -24,3 +24,9 @@ returns-clause-header_once c = header_once
 
 pub returns-clause-header_no_member : goal.returns-clause-header_no_member
 returns-clause-header_no_member c = header_no_member
+
+pub returns-clause-references : goal.returns-clause-references
+returns-clause-references c = references_inside
+
+pub returns-clause-retained : goal.returns-clause-retained
+returns-clause-retained c = retained_inside

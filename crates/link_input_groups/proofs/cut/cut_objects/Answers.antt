@@ -10,3 +10,10 @@ returns g c =
     let objects = c.args.objects.items in
     let whole : map (λ v. v.items) c.if-not-is_empty.cuts.items ≡ cut c.args.files c.args.limit [] 0 objects = first_of (search rules, grind (arith, common_steps)) in
     subst (λ (groups : List (List ObjectFile)). IsCut c.args.files c.args.limit objects groups) (sym whole) (cut-is c.args.files c.args.limit objects c.requires.files)
+
+-- the cuts so far, and the group that is open
+pub loop-object-preserved : goal.loop-object-preserved
+loop-object-preserved g c = record {
+  cuts = first_of (search rules, grind (arith, common_steps));
+  small = first_of (search rules, grind (arith, common_steps), omega arith);
+}

@@ -7,7 +7,7 @@ use Rattle.link_input.proofs.object.InputObject.group.Goals as goal
 inside : (g : given.Over) (c : goal.After-index-groups-group g) → GroupInside c.args.self.now c.index-groups-group.result
 inside g c =
     let o = c.self.inside in
-    let table : ObjectTable = record { is_dynamic = o.is_dynamic; lib_name = o.lib_name; sections = o.sections; symbols = o.symbols; groups = o.groups } in
+    let table : ObjectTable = record { is_dynamic = o.is_dynamic; lib_name = o.lib_name; sections = o.sections; symbols = o.symbols; groups = o.groups; section_references = o.section_references; retained_sections = o.retained_sections } in
     let group = c.index-groups-group.result in
     let same : table ≡ c.args.self.now = c.self.view_is in
     let within : c.args.group < length table.groups = subst (λ (t : ObjectTable). c.args.group < length t.groups) (sym same) c.requires in

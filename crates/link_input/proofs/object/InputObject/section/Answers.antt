@@ -11,7 +11,7 @@ use Rattle.link_input.proofs.object.InputObject.section.Goals as goal
 pub returns-clause-below : goal.returns-clause-below
 returns-clause-below g c =
     let o = c.self.inside in
-    let table : ObjectTable = record { is_dynamic = o.is_dynamic; lib_name = o.lib_name; sections = o.sections; symbols = o.symbols; groups = o.groups } in
+    let table : ObjectTable = record { is_dynamic = o.is_dynamic; lib_name = o.lib_name; sections = o.sections; symbols = o.symbols; groups = o.groups; section_references = o.section_references; retained_sections = o.retained_sections } in
     let same : table ≡ c.args.self.now = c.self.view_is in
     let within : c.args.index < length table.symbols = subst (λ (t : ObjectTable). c.args.index < length t.symbols) (sym same) c.requires in
     let symbol : SymbolEntry = get_or table.symbols c.args.index null_entry in
