@@ -67,12 +67,12 @@ missing-are w mapping names same are =
 
 -- all parts make the answer
 pub same-answer : {P : Type 0} (platform : PlatformRules) (demangle : Bytes → Bytes) (w : World) (l : Selection) (db : Database P) (flags : List ℕ) (r : Resolving)
-    (versions : List GivenVersion) (undefined : List ℕ) (missing : List Bytes)
+    (versions : List GivenVersion) (undefined : List ℕ) (missing : List Bytes) (roots : List ℕ)
     → IsEndedWith platform demangle w l db flags r → versions ≡ versions_given (resolved l) → undefined ≡ undefined_ids l
     → missing ≡ missing_exports l.stage
-    → answer_of (record { db = db; known = r.known; groups = r.groups; flags = flags; versions = versions; undefined = undefined; missing = missing })
+    → answer_of (record { db = db; known = r.known; groups = r.groups; flags = flags; versions = versions; undefined = undefined; missing = missing; roots = roots })
     ≡ linked_from (resolved l)
-same-answer {P} platform demangle w l db flags r versions undefined missing is versions_are undefined_are missing_are =
+same-answer {P} platform demangle w l db flags r versions undefined missing roots is versions_are undefined_are missing_are =
     let us = filter (λ (u : Numbered). is_last_alike (left_undefined l) u && not (is_boundary_maker l.stage (left_undefined l) u)) (left_undefined l) in
     let groups = subst (λ (ms : List Bool). AreGroupsOf ms l.stage.objects r.groups) (sym is.ended.marks) is.groups in
     let kept = ap (λ (s : SelectedGroups). s.kept) groups.groups in

@@ -306,6 +306,7 @@ ended-with {P} platform demangle w l old new before flags r is symbols objects o
   added = added;
   kept = record {
     options = sym (is.settled.options ∙ sym options);
+    objects = sym (is.settled.objects ∙ sym objects);
     symbols = sym (is.settled.symbols ∙ sym symbols);
     names = names;
     known_is = is.known;
@@ -325,6 +326,11 @@ refused-through (Err x) P e same held = subst P (sym same) held
 pub ok-into : {A E : Type 0} (r : Result A E) (P Q : A → Type 0) → ((x : A) → P x → Q x) → IfOk r P → IfOk r Q
 ok-into (Ok x) P Q into held = into x held
 ok-into (Err e) P Q into held = tt
+
+-- what follows of two facts
+pub ok-both : {A E : Type 0} (r : Result A E) (P Q R : A → Type 0) → ((x : A) → P x → Q x → R x) → IfOk r P → IfOk r Q → IfOk r R
+ok-both (Ok x) P Q R into first second = into x first second
+ok-both (Err e) P Q R into first second = tt
 
 -- and so of an error
 pub err-into : {A E : Type 0} (r : Result A E) (P Q : E → Type 0) → ((e : E) → P e → Q e) → IfErr r P → IfErr r Q

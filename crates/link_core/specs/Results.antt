@@ -1,5 +1,5 @@
 -- What comes of the link of some batches, with options and texts.
-use Rattle.std.specs.Prelude.{List}
+use Rattle.std.specs.Prelude.{◌≡◌, List}
 use Rattle.std.specs.Option.{IsSomeAnd}
 use Rattle.link_input.specs.declared.options.Options.{Options}
 use Rattle.link_input.specs.declared.world.Scripts.{Scripts}
@@ -9,6 +9,7 @@ use Rattle.link_rules.specs.declared.refusal.LinkError.{LinkError}
 use Rattle.link_rules.specs.Answer.{IsLinked, IsRefused}
 use Rattle.link_rules.specs.Explained.{IsExplanation}
 use Rattle.link_rules.specs.Linked.{Linked}
+use Rattle.link_rules.specs.Loading.{root_symbols}
 use Rattle.link_rules.specs.Places.{Bytes}
 use Rattle.link_rules.specs.Rules.{PlatformRules}
 use Rattle.link_rules.specs.Selection.{Selection}
@@ -21,9 +22,9 @@ use Rattle.link_core.specs.Steps.{IsKept, Selects}
 abbrev pub LinksTo : PlatformRules → (Bytes → Bytes) → Options → Scripts → List Batch → Linked → Type 0
 LinksTo platform demangle options texts batches answer = IsSomeAnd (world_of_batches platform demangle options texts batches) (λ w. IsLinked w answer)
 
--- a link of the world keeps these parts, those of the selection with which its batches end
+-- a link of the world keeps these parts, those of the selection with which its batches end, and what root names are mapped to there
 abbrev pub HasParts : {P : Type 0} → World → Parts P → Type 0
-HasParts w x = (l : Selection) × Selects w l × IsKept l x.db x.known x.groups
+HasParts w x = (l : Selection) × Selects w l × IsKept l x.db x.known x.groups × (x.roots ≡ root_symbols l.stage)
 
 -- it keeps these parts
 abbrev pub KeepsParts : {P : Type 0} → PlatformRules → (Bytes → Bytes) → Options → Scripts → List Batch → Parts P → Type 0

@@ -186,10 +186,11 @@ pub record IsSettledWith {P : Type 0} (platform : PlatformRules) (demangle : Byt
   pub table : db.table ≡ versioned_table l
   pub flags : numbers ≡ each_from (narrowed_symbol l.stage (marked_flags l)) 0 l.stage.symbols
 
--- what is kept of a link that ends with this selection: the options, the symbols of files, what names are mapped to, which objects are loaded, what
+-- what is kept of a link that ends with this selection: the options, the objects, the symbols of files, what names are mapped to, which objects are loaded, what
 -- references stand for and how strongly symbols bind, and which section groups of the loaded regular objects are kept
 pub record IsKept {P : Type 0} (l : Selection) (db : Database P) (known : Known) (groups : IndexedGroups) : Type 0 where
   pub options : db.options ≡ l.stage.options
+  pub objects : objects_in db.mapping.files.groups ≡ l.stage.objects
   pub symbols : symbols_in db.mapping.files.groups ≡ l.stage.symbols
   pub names : (name : Bytes) → mapping_of db.mapping name ≡ meaning_at_end l name
   pub known_is : known ≡ known_of l

@@ -1,6 +1,6 @@
 //! What is told at the end of a link.
 
-ghost use Rattle.std.specs.Prelude.{◌≡◌, ◌<◌, ◌++◌, [], ◌∷◌, All, IfErr, IfOk, OnOk, filter, is_none, length, if◌then◌else◌};
+ghost use Rattle.std.specs.Prelude.{◌≡◌, ◌<◌, ◌++◌, ℕ, List, [], ◌∷◌, All, IfErr, IfOk, OnOk, filter, is_none, length, if◌then◌else◌};
 ghost use Rattle.link_db_files.specs.Inputs.{objects_in};
 ghost use Rattle.link_flags.specs.FlagWords.{numbers_of, words_of};
 ghost use Rattle.link_db_texts.specs.Holds.{AreRulesOf, platform_of};
@@ -116,7 +116,7 @@ fn endings<P: Platform, D: Demangler>(
     ensures kept { OnOk result ((w : World) (l : Selection)
         → IsSettledWith (platform_of P.Platform) (D.demangled demangler.now) w l (seen db.old) (numbers_of (words_of flags.old)) resolver.now
         → IsKept l (seen db.new) resolver.now.known resolver.now.groups) }
-    ensures linked { IfOk result (λ told. (w : World) (l : Selection)
+    ensures linked { IfOk result (λ told. (w : World) (l : Selection) (roots : List ℕ)
         → IsSettledWith (platform_of P.Platform) (D.demangled demangler.now) w l (seen db.old) (numbers_of (words_of flags.old)) resolver.now
         → IsLinked w (answer_of (record {
           db = seen db.new;
@@ -126,6 +126,7 @@ fn endings<P: Platform, D: Demangler>(
           versions = told.1.items;
           undefined = told.0.items;
           missing = told.2.items;
+          roots = roots;
         }))) }
 {
     let missing = missing_exports(alloc, db)?;
@@ -134,13 +135,14 @@ fn endings<P: Platform, D: Demangler>(
     Ok((undefined, versions, missing))
 }
 
-/// Ends a link whose rivals are settled.
+/// Ends a link whose rivals are settled, and in which root names are mapped to these symbols.
 pub(crate) fn end_link<P: Platform, D: Demangler>(
     alloc: Global,
     mut db: SymbolDb<P>,
     mut flags: PerSymbolFlags,
     resolver: Resolver,
     custom_sections: &[Name],
+    roots: Vec<SymbolId>,
     demangler: &D,
 ) -> Result<Linked<P>, LinkError>
     requires room { HasRoom (seen db) (words_of flags) }
@@ -156,6 +158,7 @@ pub(crate) fn end_link<P: Platform, D: Demangler>(
         → IsKept l (answer.seen linked).db (answer.seen linked).known (answer.seen linked).groups) }
     ensures linked { IfOk result (λ linked. (w : World) (l : Selection)
         → IsSettledWith (platform_of P.Platform) (D.demangled demangler.now) w l (seen db) (numbers_of (words_of flags)) resolver → IsLinked w (answer_of (answer.seen linked))) }
+    ensures roots { IfOk result (λ linked. (answer.seen linked).roots ≡ roots.items) }
 {
     let (undefined, versions, missing) = endings(
         alloc,
@@ -165,5 +168,5 @@ pub(crate) fn end_link<P: Platform, D: Demangler>(
         custom_sections,
         demangler,
     )?;
-    Ok(Linked::new(db, resolver, flags, versions, undefined, missing))
+    Ok(Linked::new(db, resolver, flags, versions, undefined, missing, roots))
 }

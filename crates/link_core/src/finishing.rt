@@ -9,6 +9,7 @@ ghost use Rattle.link_resolve.specs.Known.{IsListed};
 ghost use Rattle.link_resolve_explanation.specs.Rooted.{FollowsFrom};
 ghost use Rattle.link_rules.specs.Answer.{IsLinked};
 ghost use Rattle.link_rules.specs.Explained.{Explains};
+ghost use Rattle.link_rules.specs.Loading.{root_symbols};
 ghost use Rattle.link_rules.specs.Selection.{Selection};
 ghost use Rattle.link_rules.specs.World.{World};
 ghost use Rattle.link_db.specs.Seen.{seen};
@@ -26,6 +27,7 @@ use link_flags::PerSymbolFlags;
 use link_input::Platform;
 use link_resolve::Resolver;
 use link_resolve_explanation::explain;
+use link_resolve_requests::root_symbols;
 use link_rules::{Explanation, FoundRoot, LinkError};
 use link_script::Demangler;
 use std::alloc::Global;
@@ -52,10 +54,14 @@ fn settle_and_end<P: Platform, D: Demangler>(
     ensures linked { IfOk result (λ linked. (w : World) (l : Selection)
         → IsPointedWith (platform_of P.Platform) (D.demangled demangler.now) w l (seen db) (numbers_of (words_of flags)) resolver
         → IsLinked w (answer_of (answer.seen linked))) }
+    ensures roots { IfOk result (λ linked. (w : World) (l : Selection)
+        → IsPointedWith (platform_of P.Platform) (D.demangled demangler.now) w l (seen db) (numbers_of (words_of flags)) resolver
+        → (answer.seen linked).roots ≡ root_symbols l.stage) }
 {
     let sections = Vec::from_clones(alloc, db.options().custom_sections.as_slice())?;
+    let roots = root_symbols(alloc, &db)?;
     let db = settle_rivals(alloc, db, &mut flags, &resolver)?;
-    end_link(alloc, db, flags, resolver, &sections, demangler)
+    end_link(alloc, db, flags, resolver, &sections, roots, demangler)
 }
 
 /// Ends a link behind its last batch.
@@ -77,6 +83,9 @@ pub(crate) fn finish_link<P: Platform, D: Demangler>(
     ensures linked { IfOk result (λ linked. (w : World) (l : Selection)
         → IsLoadedWith (platform_of P.Platform) (D.demangled demangler.now) w l (seen link.db) (numbers_of (words_of link.flags)) link.resolver
         → IsLinked w (answer_of (answer.seen linked))) }
+    ensures roots { IfOk result (λ linked. (w : World) (l : Selection)
+        → IsLoadedWith (platform_of P.Platform) (D.demangled demangler.now) w l (seen link.db) (numbers_of (words_of link.flags)) link.resolver
+        → (answer.seen linked).roots ≡ root_symbols l.stage) }
 {
     let OpenLink {
         mut db,
@@ -107,6 +116,9 @@ pub(crate) fn explain_link<P: Platform, D: Demangler>(
     ensures linked { IfOk result (λ told. (w : World) (l : Selection)
         → IsLoadedWith (platform_of P.Platform) (D.demangled demangler.now) w l (seen link.db) (numbers_of (words_of link.flags)) link.resolver
         → IsLinked w (answer_of (answer.seen told.0))) }
+    ensures roots { IfOk result (λ told. (w : World) (l : Selection)
+        → IsLoadedWith (platform_of P.Platform) (D.demangled demangler.now) w l (seen link.db) (numbers_of (words_of link.flags)) link.resolver
+        → (answer.seen told.0).roots ≡ root_symbols l.stage) }
     ensures explained { IfOk result (λ told. (w : World) (l : Selection)
         → IsLoadedWith (platform_of P.Platform) (D.demangled demangler.now) w l (seen link.db) (numbers_of (words_of link.flags)) link.resolver
         → FollowsFrom roots.now l → Explains l roots.now told.1) }

@@ -13,7 +13,7 @@ use Rattle.link_db.specs.Database.{Database, HasTable, symbol_names}
 use Rattle.link_resolve.specs.Known.{Known}
 
 -- a database at its end; what is known of its objects and symbols, and the groups of the loaded regular objects; the flags and the versions of symbols; the
--- references that stand for undefined names; the names that are required and that nothing defines
+-- references that stand for undefined names; the names that are required and that nothing defines; the symbols that root names are mapped to
 pub record Parts (P : Type 0) : Type 0 where
   pub db : Database P
   pub known : Known
@@ -22,6 +22,7 @@ pub record Parts (P : Type 0) : Type 0 where
   pub versions : List GivenVersion
   pub undefined : List ℕ
   pub missing : List Bytes
+  pub roots : List ℕ
 
 -- the table and the flags have an entry for each symbol, and undefined names are those of symbols
 pub record AreWhole {P : Type 0} (x : Parts P) : Type 0 where

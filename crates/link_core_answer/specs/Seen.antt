@@ -15,4 +15,5 @@ seen linked = record {
   versions = linked.versions.items;
   undefined = linked.undefined.items;
   missing = linked.missing.items;
+  roots = linked.roots.items;
 }

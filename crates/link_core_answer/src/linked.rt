@@ -30,6 +30,8 @@ pub struct Linked<P: Platform> {
     versions: Vec<GivenVersion>,
     undefined: Vec<SymbolId>,
     missing: Vec<Name>,
+    /// The symbols that root names are mapped to.
+    roots: Vec<SymbolId>,
     ghost whole: { AreWhole (record {
       db = database.seen db;
       known = resolver.known;
@@ -38,6 +40,7 @@ pub struct Linked<P: Platform> {
       versions = versions.items;
       undefined = undefined.items;
       missing = missing.items;
+      roots = roots.items;
     }) },
 }
 
@@ -51,6 +54,7 @@ impl<P: Platform> Drop for Linked<P> {
             versions: _,
             undefined: _,
             missing: _,
+            roots: _,
         } = self;
     }
 }
@@ -66,7 +70,8 @@ impl<P: Platform> Linked<P> {
     ghost use Rattle.link_core_answer.specs.Seen.{seen};
 
     /// A link of these parts: a database whose table is that of the end; what is known of its objects and symbols; the flags of each symbol; the versions
-    /// that symbols are given; the references that stand for undefined names; and the names that the export list requires and nothing defines.
+    /// that symbols are given; the references that stand for undefined names; the names that the export list requires and nothing defines; and the symbols
+    /// that root names are mapped to.
     pub fn new(
         db: SymbolDb<P>,
         resolver: Resolver,
@@ -74,6 +79,7 @@ impl<P: Platform> Linked<P> {
         versions: Vec<GivenVersion>,
         undefined: Vec<SymbolId>,
         missing: Vec<Name>,
+        roots: Vec<SymbolId>,
     ) -> Self
         requires table { HasTable (database.seen db) }
         requires flags { length (words_of flags) ≡ length (symbol_names (database.seen db)) }
@@ -86,6 +92,7 @@ impl<P: Platform> Linked<P> {
           versions = versions.items;
           undefined = undefined.items;
           missing = missing.items;
+          roots = roots.items;
         } }
     {
         Linked {
@@ -95,6 +102,7 @@ impl<P: Platform> Linked<P> {
             versions,
             undefined,
             missing,
+            roots,
         }
     }
 
@@ -197,5 +205,12 @@ impl<P: Platform> Linked<P> {
         ensures { result.now ≡ (seen self.now).missing }
     {
         &self.missing
+    }
+
+    /// The symbols that root names are mapped to, in the order of the names: the entry, required exports, forced names, and what redirects refer to.
+    pub fn roots(&self) -> &[SymbolId]
+        ensures { result.now ≡ (seen self.now).roots }
+    {
+        &self.roots
     }
 }

@@ -1,7 +1,5 @@
 //! The marking of sections that are kept (`--gc-sections`): which nodes of a graph are live. Threads find them on the
 //! shared words by which they also load files.
-//!
-//! Its public call is for callers of the library alone, and no crate here makes it: docs/PORT.md lists it.
 #![tactic(auto)]
 
 mod outgoing;

@@ -16,4 +16,4 @@ pub use checking::check_groups;
 pub use laws::discarded_sections_are_those_of_a_link;
 pub use loaded_groups::LoadedGroups;
 pub use placed::placed_objects;
-pub use signatures::signature_ids;
+pub use signatures::{first_symbol, first_symbols, signature_ids};

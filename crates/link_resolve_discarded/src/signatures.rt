@@ -33,7 +33,7 @@ fn note_first(firsts: &mut [Option<SymbolId>], id: SymbolId, object: Option<usiz
 }
 
 /// The first symbol of each object, by the place of the object, of which there are so many. None where an object has no symbol.
-fn first_symbols<P: Platform>(
+pub fn first_symbols<P: Platform>(
     alloc: Global,
     files: &Files<P>,
     objects: usize,
@@ -49,7 +49,7 @@ fn first_symbols<P: Platform>(
 }
 
 /// The first symbol of the object at this place; 0 where it has none.
-fn first_symbol(firsts: &[Option<SymbolId>], object: usize) -> usize
+pub fn first_symbol(firsts: &[Option<SymbolId>], object: usize) -> usize
     ensures { result ≡ unwrap_or (index_at firsts.now object) 0 }
 {
     match firsts.get(object).copied().flatten() {

@@ -10,5 +10,5 @@ mod targets;
 pub use names::{lasting_names, referred_names, root_names};
 pub use objects::{object_marks, objects_of};
 pub use requests::request_by;
-pub use roots::{object_of_name, root_objects};
+pub use roots::{object_of_name, root_objects, root_symbols};
 pub use targets::looked_up;

@@ -1,13 +1,14 @@
-//! The objects that are loaded whatever refers to them.
+//! The objects that are loaded whatever refers to them, and the symbols of root names.
 
-ghost use Rattle.std.specs.Prelude.{◌≡◌, ◌||◌, ◌<◌, ◌≤◌, ℕ, IfOk, length, slice_get};
+ghost use Rattle.std.specs.Prelude.{◌≡◌, ◌||◌, ◌++◌, ◌<◌, ◌≤◌, ℕ, IfOk, OnOk, filter_map, length, option_to_list, slice_get};
 ghost use Rattle.std.specs.List.{list_any};
 ghost use Rattle.std.specs.Option.{option_and_then};
 ghost use Rattle.link_closure.specs.Closure.{is_marked};
 ghost use Rattle.link_db_files.specs.Inputs.{objects_in};
 ghost use Rattle.link_db_texts.specs.Holds.{platform_of};
 ghost use Rattle.link_db_files.specs.Sources.{sources_of};
-ghost use Rattle.link_rules.specs.Loading.{holds_name, is_root};
+ghost use Rattle.link_db_mapping.specs.Mapped.{mapping_of};
+ghost use Rattle.link_rules.specs.Loading.{holds_name, is_root, root_symbols};
 ghost use Rattle.link_rules.specs.Names.{first_definition};
 ghost use Rattle.link_rules.specs.Places.{Bytes, is_number};
 ghost use Rattle.link_rules.specs.World.{Stage, object_of};
@@ -85,4 +86,42 @@ pub fn root_objects<P: Platform>(
     let names = root_names(alloc, db)?;
     mark_holders(db, db.files().sources(), &mut roots, &names);
     Ok(roots)
+}
+
+/// Adds a symbol, if it is given.
+fn push_given(ids: &mut Vec<SymbolId>, id: Option<SymbolId>) -> Result<(), AllocError>
+    ensures { OnOk result (ids.new.items ≡ ids.old.items ++ option_to_list id) }
+{
+    if let Some(id) = id {
+        ids.push(id)?;
+    }
+    Ok(())
+}
+
+/// The symbols that these names are mapped to, in their order; a name that nothing defines has none.
+fn symbols_of_names<P: Platform>(
+    alloc: Global,
+    db: &SymbolDb<P>,
+    names: &[NameView],
+) -> Result<Vec<SymbolId>, AllocError>
+    ensures { IfOk result (λ ids. ids.items ≡ filter_map (mapping_of (seen db.now).mapping) names.now) }
+{
+    let mut ids = Vec::new(alloc);
+    for name in names {
+        push_given(&mut ids, db.get_unversioned(name.as_slice()))?;
+    }
+    Ok(ids)
+}
+
+/// The symbols that root names are mapped to, in the order of the names: what a link wants whatever refers to it. The only refusal is
+/// want of memory.
+pub fn root_symbols<P: Platform>(
+    alloc: Global,
+    db: &SymbolDb<P>,
+) -> Result<Vec<SymbolId>, AllocError>
+    ensures { IfOk result (λ ids. (demangle : Bytes → Bytes) (w : Stage) → IsAtStage (platform_of P.Platform) demangle (seen db.now) w → ids.items ≡ root_symbols w) }
+{
+    let names = root_names(alloc, db)?;
+    let ids = symbols_of_names(alloc, db, &names)?;
+    Ok(ids)
 }

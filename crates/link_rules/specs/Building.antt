@@ -53,7 +53,7 @@ group header signature is_comdat members =
 abbrev pub file : Bytes → Bool → Bool → Bool → Bool → ℕ → List SymbolEntry → List SectionGroup → ObjectFile
 file name is_dynamic archive whole_archive as_needed sections symbols groups = record {
   input = name;
-  object = record { is_dynamic = is_dynamic; lib_name = name; sections = sections; symbols = symbols; groups = groups };
+  object = record { is_dynamic = is_dynamic; lib_name = name; sections = sections; symbols = symbols; groups = groups; section_references = []; retained_sections = [] };
   modifiers = record { archive = archive; whole_archive = whole_archive; as_needed = as_needed };
 }
 

@@ -62,6 +62,10 @@ root_names w = option_to_list (entry_name w) ++ w.rules.required_exports ++ forc
 abbrev pub holds_name : Stage → ℕ → Bytes → Bool
 holds_name w f name = is_number (option_and_then (object_of w) (first_definition w name)) f
 
+-- the symbols that root names are mapped to, in the order of the names
+abbrev pub root_symbols : Stage → List ℕ
+root_symbols w = filter_map (first_definition w) (root_names w)
+
 -- an object that is not optional, or that holds what a root name is mapped to
 abbrev pub is_required : Stage → ℕ → Bool
 is_required w f = option_map_or (λ o. not (is_optional o)) (slice_get w.objects f) false || list_any (holds_name w f) (root_names w)

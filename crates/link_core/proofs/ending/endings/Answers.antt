@@ -33,7 +33,7 @@ returns-clause-kept g c = λ w l is. (c.in_ok-undefined.ensures.ended (g.D.Deman
 
 -- all parts make the answer of the world
 pub returns-clause-linked : goal.returns-clause-linked
-returns-clause-linked g c = λ w l is.
+returns-clause-linked g c = λ w l roots is.
     let demangle = g.D.Demangler.demangled c.args.demangler.now in
     let at = c.in_ok-undefined.ensures.ended demangle w l is in
     let ended = subst (λ (k : Known). IsEnded (platform_of g.P.Platform) demangle (seen c.end_symbols.new.db) k l) (sym c.resolved.ensures) at.ended in
@@ -44,5 +44,5 @@ returns-clause-linked g c = λ w l is.
       ends = at.selects.ends;
       goes_on = goes-on l at.duplicates (c.in_ok-versions.ensures.cause l ended);
       is = same-answer (platform_of g.P.Platform) demangle w l (seen c.end_symbols.new.db) (numbers_of (words_of c.end_symbols.new.flags)) c.args.resolver.now c.in_ok-versions.versions.items c.in_ok-undefined.undefined.items
-          c.in_ok-missing.missing.items at (c.in_ok-versions.ensures.versions l ended) (c.in_ok-undefined.ensures.undefined demangle w l is) missing;
+          c.in_ok-missing.missing.items roots at (c.in_ok-versions.ensures.versions l ended) (c.in_ok-undefined.ensures.undefined demangle w l is) missing;
     }

@@ -29,6 +29,9 @@ returns-clause-kept g c = λ w l loaded. c.in_ok-linked.ensures.kept w l (c.in_o
 pub returns-clause-linked : goal.returns-clause-linked
 returns-clause-linked g c = λ w l loaded. c.in_ok-linked.ensures.linked w l (c.in_ok-point_symbols.ensures.pointed (g.D.Demangler.demangled c.args.demangler.now) w l loaded)
 
+pub returns-clause-roots : goal.returns-clause-roots
+returns-clause-roots g c = λ w l loaded. c.in_ok-linked.ensures.roots w l (c.in_ok-point_symbols.ensures.pointed (g.D.Demangler.demangled c.args.demangler.now) w l loaded)
+
 -- the database tells of the selection
 pub returns-clause-explained : goal.returns-clause-explained
 returns-clause-explained g c = λ w l loaded follows.

@@ -1,4 +1,4 @@
-use Rattle.std.proofs.Common.{inr, refl}
+use Rattle.std.proofs.Common.{◌∙◌, inr, refl}
 use Rattle.link_rules.specs.declared.refusal.LinkError.TheVariants.{Memory}
 use Rattle.link_core.proofs.Passing.{err-into, ok-into, refused-through}
 use Rattle.link_core.proofs.finishing.settle_and_end.Goals as goal
@@ -25,6 +25,14 @@ pub returns-clause-linked : goal.returns-clause-linked
 returns-clause-linked g c =
     ok-into c.end_link.result _ _ (λ linked held. λ w l pointed. held w l (c.in_ok-db.ensures.settled (g.D.Demangler.demangled c.args.demangler.now) w l pointed)) c.end_link.ensures.linked
 
+-- before rivals are settled the database is at the stage of the selection
+pub returns-clause-roots : goal.returns-clause-roots
+returns-clause-roots g c =
+    ok-into c.end_link.result _ _ (λ linked held. λ w l pointed. held ∙ c.in_ok-roots.ensures (g.D.Demangler.demangled c.args.demangler.now) l.stage pointed.selection.stage) c.end_link.ensures.roots
+
 -- memory ran out
 pub returns-in_err-sections-clause-refused : goal.returns-in_err-sections-clause-refused
 returns-in_err-sections-clause-refused g c = refused-through c.from_residual.result _ Memory c.from_residual.ensures.1 (λ w l pointed. inr refl)
+
+pub returns-in_err-roots-clause-refused : goal.returns-in_err-roots-clause-refused
+returns-in_err-roots-clause-refused g c = refused-through c.from_residual-in_err-roots.result _ Memory c.from_residual-in_err-roots.ensures.1 (λ w l pointed. inr refl)

@@ -15,7 +15,7 @@ use Rattle.link_core_answer.specs.Seen as answer
 use Rattle.link_core.specs.Results.{HasParts}
 use Rattle.link_core.specs.Standing.{came_to}
 use Rattle.link_core.specs.Steps.{IsRefusedBehind}
-use Rattle.link_core.proofs.Passing.{err-into, ok-into}
+use Rattle.link_core.proofs.Passing.{err-into, ok-both, ok-into}
 use Rattle.link_core.proofs.Refusing.{refused-with}
 use Rattle.link_core.proofs.Standing.{ends-standing, noted-at}
 use Rattle.link_core.proofs.standing_link.StandingLink.explain.Goals as goal
@@ -34,8 +34,9 @@ returns-clause-linked g c =
 pub returns-clause-parts : goal.returns-clause-parts
 returns-clause-parts g c =
     let ends = ends-standing (platform_of g.P.Platform) (g.D.Demangler.demangled c.args.demangler.now) c.args.self c.requires.standing c.requires.some in
-    ok-into c.explain_link.result _ _ (λ told held. subst (λ (o : Option World). IsSomeAnd o (λ w. HasParts w (answer.seen told.0))) (sym ends.is)
-    (ends.selection, ends.loaded.selects, held ends.world ends.selection ends.loaded)) c.explain_link.ensures.kept
+    ok-both c.explain_link.result _ _ _ (λ told kept roots. subst (λ (o : Option World). IsSomeAnd o (λ w. HasParts w (answer.seen told.0))) (sym ends.is)
+    (ends.selection, ends.loaded.selects, kept ends.world ends.selection ends.loaded, roots ends.world ends.selection ends.loaded))
+    c.explain_link.ensures.kept c.explain_link.ensures.roots
 
 pub returns-clause-objects : goal.returns-clause-objects
 returns-clause-objects g c =

@@ -8,7 +8,7 @@ use Rattle.link_core_answer.specs.Parts.{answer_of}
 use Rattle.link_core_answer.specs.Seen as answer
 use Rattle.link_core.specs.Results.{HasParts}
 use Rattle.link_core.specs.Steps.{IsRefusedBehind}
-use Rattle.link_core.proofs.Passing.{err-into, ok-into}
+use Rattle.link_core.proofs.Passing.{err-into, ok-both, ok-into}
 use Rattle.link_core.proofs.Refusing.{refused-with}
 use Rattle.link_core.proofs.Standing.{ends-standing}
 use Rattle.link_core.proofs.standing_link.StandingLink.finish.Goals as goal
@@ -27,8 +27,9 @@ returns-clause-linked g c =
 pub returns-clause-parts : goal.returns-clause-parts
 returns-clause-parts g c =
     let ends = ends-standing (platform_of g.P.Platform) (g.D.Demangler.demangled c.args.demangler.now) c.args.self c.requires.standing c.requires.some in
-    ok-into c.finish_link.result _ _ (λ linked held. subst (λ (o : Option World). IsSomeAnd o (λ w. HasParts w (answer.seen linked))) (sym ends.is)
-    (ends.selection, ends.loaded.selects, held ends.world ends.selection ends.loaded)) c.finish_link.ensures.kept
+    ok-both c.finish_link.result _ _ _ (λ linked kept roots. subst (λ (o : Option World). IsSomeAnd o (λ w. HasParts w (answer.seen linked))) (sym ends.is)
+    (ends.selection, ends.loaded.selects, kept ends.world ends.selection ends.loaded, roots ends.world ends.selection ends.loaded))
+    c.finish_link.ensures.kept c.finish_link.ensures.roots
 
 pub returns-clause-objects : goal.returns-clause-objects
 returns-clause-objects g c =
