@@ -1,0 +1,2 @@
+pub mod LiveSections
+pub mod SectionText
