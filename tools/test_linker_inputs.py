@@ -9,17 +9,18 @@ import sys
 import tempfile
 import unittest
 
-from linker_inputs import archives, elf, linker_script, words
+from linker_inputs import archives, elf, linker_script, references, words
 from linker_inputs.faults import Fault, Warnings
+from linker_inputs.keep import Keep
 from linker_inputs.linker_symbols import linker_symbols
-from linker_inputs.main import manifest_of, words_of_compiler
+from linker_inputs.main import manifest_of, own_words, words_of_compiler
 from linker_inputs.names import Names, json_of
 from linker_inputs.response_files import expanded, joined, split
 
 
-def section(name, kind, content=b"", link=0, info=0, entry=0):
+def section(name, kind, content=b"", link=0, info=0, entry=0, flags=0):
     """A section as `object_bytes` takes it."""
-    return {"name": name, "kind": kind, "content": content, "link": link, "info": info, "entry": entry}
+    return {"name": name, "kind": kind, "content": content, "link": link, "info": info, "entry": entry, "flags": flags}
 
 
 def object_bytes(symbols, sections=(), kind=elf.RELOCATABLE, order="<", bits=2):
@@ -38,7 +39,7 @@ def object_bytes(symbols, sections=(), kind=elf.RELOCATABLE, order="<", bits=2):
     parts[-1]["content"] = names
     body, headers = b"", struct.pack(order + "IIQQQQIIQQ", *([0] * 10))
     for part in parts:
-        place = (part["at"], part["kind"], 0, 0, 64 + len(body), len(part["content"]))
+        place = (part["at"], part["kind"], part["flags"], 0, 64 + len(body), len(part["content"]))
         headers += struct.pack(order + "IIQQQQIIQQ", *place, part["link"], part["info"], 1, part["entry"])
         body += part["content"]
     start = b"\x7fELF" + bytes([bits, 1 if order == "<" else 2, 1]) + bytes(9)
@@ -177,6 +178,110 @@ class Shared(unittest.TestCase):
             elf.read_elf("x", shared_bytes(flags=0x08000000), quiet())
 
 
+CODE, DATA, GROUPED = 0x6, 0x2, 0x200
+
+
+def relocated(number, symbols, order="<", addends=True):
+    """The relocations of a section, which name some symbols."""
+    rows = [struct.pack(order + "QQq"[: 4 if addends else 2], *(8 * place, symbol << 32 | 1, 0)[: 3 if addends else 2]) for place, symbol in enumerate(symbols)]
+    return section(b".rela", 4 if addends else 9, b"".join(rows), info=number)
+
+
+def referring(symbols, sections, order="<", stream=None):
+    """What an object tells of its sections."""
+    data = object_bytes(symbols, sections, order=order)
+    return elf.read_elf("a.o", data, Warnings(stream or io.StringIO()), references.Referring).referring
+
+
+class References(unittest.TestCase):
+    """What sections refer to, and which are kept."""
+
+    def test_pairs(self):
+        symbols = [(b"", 0x03, 0, 1, 0), (b"f", 0x12, 0, 1, 0), (b"g", 0x10, 0, 0, 0)]
+        for order in "<>":
+            for addends in (True, False):
+                with self.subTest(order=order, addends=addends):
+                    sections = [section(b".text.f", 1, flags=CODE), section(b".data", 1, flags=DATA), relocated(2, [3, 0, 1, 3], order, addends)]
+                    found = referring(symbols, [*sections, relocated(1, [2], order, addends)], order)
+                    self.assertEqual((sorted(found.pairs), found.retained), ([(1, 2), (2, 1), (2, 3)], set()))
+
+    def test_retained(self):
+        """Each row is a section, and whether it is kept."""
+        rows = [(b".text", 1, CODE, False), (b".init", 1, CODE, True), (b".fini", 1, CODE, True), (b".initial", 1, CODE, False)]
+        rows += [(name, 1, DATA, True) for name in (b".init_array.9", b".fini_array", b".preinit_array", b".ctors.1", b".dtors", b".jcr", b".eh_frame")]
+        rows += [(b"x", kind, DATA, True) for kind in (7, 14, 15, 16, 0x70000001)]
+        rows += [(b"x", 1, DATA | references.RETAIN, True), (b"x", 1, DATA | references.RETAIN | references.EXCLUDE, False)]
+        rows += [(b".comment", 1, 0, True), (b".llvm_addrsig", 1, references.EXCLUDE, False), (b".rela.x", 4, 0, False)]
+        rows += [(b".bss", 8, DATA, False), (b"steps", 1, DATA, False), (b".jcr", 1, DATA | references.LINK_ORDER, True)]
+        for name, kind, flags, kept in rows:
+            with self.subTest(name=name, kind=kind, flags=flags):
+                self.assertEqual(1 in referring([], [section(name, kind, flags=flags)]).retained, kept)
+
+    def test_groups(self):
+        """A note, and what is no memory, is kept with its group, and its references count. Outside of groups those of a note do."""
+        group = section(b".group", elf.GROUP, struct.pack("<4I", 1, 2, 3, 4), info=1)
+        members = [section(b".text.f", 1, flags=CODE | GROUPED), section(b".note", 7, flags=GROUPED), section(b".debug_f", 1, flags=GROUPED)]
+        others = [section(b".note", 7), section(b".debug", 1), *(relocated(number, [1]) for number in (2, 3, 4, 5, 6))]
+        found = referring([(b"f", 0x22, 0, 2, 0)], [group, *members, *others])
+        self.assertEqual((found.retained, sorted(found.pairs)), ({5, 6}, [(2, 1), (3, 1), (4, 1), (5, 1)]))
+
+    def test_linked(self):
+        """A section that lives with another one: by a local symbol in it, or else it is kept, and the other one has its references."""
+        for symbol, pairs, retained in (((b"x", 0, 0, 2, 0), [(1, 1), (2, 2)], set()), ((b"x", 0x10, 0, 2, 0), [(1, 2)], {2})):
+            with self.subTest(symbol=symbol):
+                sections = [section(b".text.f", 1, flags=CODE), section(b".about", 1, link=1, flags=DATA | references.LINK_ORDER), relocated(2, [2])]
+                found = referring([symbol, (b"f", 0x10, 0, 0, 0)], sections)
+                self.assertEqual((sorted(found.pairs), found.retained), (pairs, retained))
+
+    def test_linked_in_a_group(self):
+        """A section that lives with another one in its group isn't kept, since that would keep the group."""
+        group = section(b".group", elf.GROUP, struct.pack("<3I", 1, 2, 3), info=1)
+        about = section(b".stack_sizes", 1, link=2, flags=references.LINK_ORDER | GROUPED)
+        found = referring([(b"f", 0x22, 0, 2, 0)], [group, section(b".text.f", 1, flags=CODE | GROUPED), about, relocated(3, [1])])
+        self.assertEqual((sorted(found.pairs), found.retained), ([(3, 1)], set()))
+
+    def test_records(self):
+        """Records of .eh_frame refer for their functions: to a table and to a routine. Where they can't be read, the section refers."""
+        symbols = [(b"", 3, 0, 1, 0), (b"", 3, 0, 2, 0), (b"table", 0, 0, 3, 0), (b"routine", 0x10, 0, 0, 0)]
+        whole = struct.pack("<4I", 12, 0, 0, 0) + struct.pack("<6I", 20, 20, 0, 0, 0, 0) + struct.pack("<6I", 20, 44, 0, 0, 0, 0)
+        rows = b"".join(struct.pack("<QQq", place, symbol << 32, 0) for place, symbol in [(48, 2), (32, 3), (24, 1), (8, 4)])
+        text = [section(b".text.f", 1, flags=CODE), section(b".text.g", 1, flags=CODE), section(b".gcc_except_table", 1, flags=DATA)]
+        read, unread = [(1, 3), (1, 4), (2, 4)], [(4, 1), (4, 2), (4, 3), (4, 4)]
+        for content, pairs in ((whole, read), (whole + bytes(4), read), (whole[:-1], unread), (whole[:-8] + b"\xff" * 8, read), (b"\xff" * 4 + whole, unread)):
+            with self.subTest(content=content):
+                frame = [section(b".eh_frame", 1, content, flags=DATA), section(b".rela.eh_frame", 4, rows, info=4)]
+                found = referring(symbols, [*text, *frame])
+                self.assertEqual((sorted(found.pairs), found.retained), (pairs, {4}))
+
+    def test_wide(self):
+        """Symbols whose sections stand in the table of wide numbers."""
+        wide = section(b".symtab_shndx", elf.WIDE_INDEXES, struct.pack("<3I", 0, 1, 2))
+        sections = [section(b".text", 1, flags=CODE), section(b".data", 1, flags=DATA), wide]
+        found = referring([(b"f", 0x12, 0, elf.WIDE, 0), (b"x", 0, 0, elf.WIDE, 0)], sections)
+        self.assertEqual((found.homes, found.definitions, found.locals[2]), ([0, 1, 2], [(b"f", 1, 0)], 2))
+
+    def test_compact(self):
+        stream = io.StringIO()
+        referring([], [section(b".text", 1, flags=CODE), section(b".crel.text", elf.COMPACT_RELOCATIONS, b"\0", info=1)], stream=stream)
+        self.assertIn("SHT_CREL", stream.getvalue())
+
+    def test_damaged(self):
+        """Whatever bytes an object has, it is read or refused."""
+        numbers = random.Random(2)
+        records = struct.pack("<9I", 12, 0, 0, 0, 16, 20, 0, 0, 0)
+        sections = [section(b".text.f", 1, flags=CODE), section(b".eh_frame", 1, records, flags=DATA), section(b".x", 1, link=1, flags=references.LINK_ORDER)]
+        whole = object_bytes([(b"f", 0x22, 0, 1, 0)], [*sections, relocated(2, [1, 1, 1]), relocated(1, [1], addends=False)])
+        for _ in range(2000):
+            data = bytearray(whole)
+            for _ in range(numbers.randint(1, 4)):
+                data[numbers.randrange(4, len(data))] = numbers.randrange(256)
+            try:
+                elf.read_elf("a.o", bytes(data), quiet(), references.Referring)
+            except Fault:
+                pass
+
+
+
 class Archives(unittest.TestCase):
     """Archives, and the names of their members."""
 
@@ -210,6 +315,7 @@ class Scripts(unittest.TestCase):
         ("VERSION { V1 { global: a; local: *; }; }", {"version": "V1 { global: a; local: *; };"}),
         ("MEMORY { ram : ORIGIN = 0, LENGTH = 4 }", {"symbols": []}),
         ("INCLUDE other.ld", {"includes": ["other.ld"]}),
+        ("SECTIONS { .text : { KEEP(*(.text.a)) *(.text) } x = 1; }", {"symbols": [("x", [], False, False)], "lays_out": True}),
     ]  # fmt: skip
 
     def test_rows(self):
@@ -222,6 +328,47 @@ class Scripts(unittest.TestCase):
         for text in (b"hello", b"GROUP ( a.o", b"PROVIDE(7)", b"a\0b"):
             with self.subTest(text=text), self.assertRaises(Fault):
                 linker_script.read_script("x.ld", text)
+
+
+class Keeps(unittest.TestCase):
+    """What KEEP names: each row is its text, a file and a section, and whether this is kept."""
+
+    ROWS = [
+        ("*(.init)", "a.o", ".init", True),
+        ("*(.init)", "a.o", ".init.a", False),
+        ("*(.a .b*)", "lib.a(b.o)", ".bc", True),
+        ("*(.a /* .b */ .c) /* ) */", "a.o", ".b", False),
+        ("*(SORT_NONE(.init))", "a.o", ".init", True),
+        ("*(SORT_BY_NAME(SORT_BY_ALIGNMENT(.a*)) .b)", "a.o", ".ab", True),
+        ("*crtbegin.o(.ctors)", "/lib/crtbegin.o", ".ctors", True),
+        ("*crtbegin.o(.ctors)", "/lib/crtend.o", ".ctors", False),
+        ("*(EXCLUDE_FILE (*crtend.o *crtend?.o) .ctors .dtors)", "/lib/crtend.o", ".ctors", False),
+        ("*(EXCLUDE_FILE (*crtend.o *crtend?.o) .ctors .dtors)", "/lib/crtend.o", ".dtors", True),
+        ("*(EXCLUDE_FILE (*crtend.o) .ctors)", "a.o", ".ctors", True),
+        ("EXCLUDE_FILE(b.o) *(.a .b)", "b.o", ".b", False),
+        ("EXCLUDE_FILE(b.o) *(.a .b)", "lib.a(b.o)", ".b", False),
+        ("INPUT_SECTION_FLAGS(SHF_ALLOC) *(.a)", "b.o", ".a", True),
+        ("a.o", "a.o", ".x", True),
+        ("lib.a:b.o(.a)", "lib.a(b.o)", ".a", True),
+        ("lib.a:(.a)", "lib.a(c.o)", ".a", True),
+        (":a.o(.a)", "lib.a(a.o)", ".a", False),
+        (":a.o(.a)", "a.o", ".a", True),
+        ("b.o(.a)", "lib.a(b.o)", ".a", True),
+        ("*(.a", "a.o", ".a", False),
+        ("", "a.o", ".a", False),
+    ]
+
+    def test_rows(self):
+        for text, file, name, kept in self.ROWS:
+            with self.subTest(text=text, file=file):
+                self.assertEqual(Keep(text).matches(file, name), kept)
+                script = f"SECTIONS {{ .x : {{ KEEP({text}) }} }}"
+                if text.count("(") == text.count(")"):
+                    keeps = linker_script.read_script("x.ld", script.encode()).keeps
+                    self.assertEqual([keep.matches(file, name) for keep in keeps], [kept])
+
+    def test_excluded(self):
+        self.assertTrue(Keep("*(EXCLUDE_FILE(a.o) .a)").matches("a.o", ".a", excludes=False))
 
 
 class Words(unittest.TestCase):
@@ -238,6 +385,12 @@ class Words(unittest.TestCase):
         ("-hx --soname y -soname=z", {"soname": "z"}),
         ("-r -d", {"output": "partial"}),
         ("-static -pie --no-dynamic-linker", {"static": True, "position_independent": True, "no_interpreter": True}),
+        ("--gc-sections", {"collects": True, "exports_all": False, "keeps_exported": False, "drops_named_sections": False}),
+        ("--gc-sections --print-gc-sections --no-gc-sections", {"collects": False}),
+        ("--no-gc-sections -gc-sections", {"collects": True}),
+        ("-E -z start-stop-gc --gc-keep-exported", {"exports_all": True, "drops_named_sections": True, "keeps_exported": True}),
+        ("-export-dynamic --no-export-dynamic -zstart-stop-gc -z nostart-stop-gc", {"exports_all": False, "drops_named_sections": False}),
+        ("-init begin -fini=finish", {"first_call": "begin", "last_call": "finish"}),
         ("-pie -no-pie -z muldefs --export-dynamic-symbol=a*", {"position_independent": False, "allow_multiple": True, "force_export": ["a*"]}),
     ]  # fmt: skip
 
@@ -256,9 +409,14 @@ class Words(unittest.TestCase):
 
     def test_warnings(self):
         stream = io.StringIO()
-        words.read_words("--gc-sections --gc-sections --no-such-word a.o --require-defined=f".split(), Warnings(stream))
+        words.read_words("-Bsymbolic -Bsymbolic --no-such-word a.o --gc-sections --require-defined=f".split(), Warnings(stream))
         told = stream.getvalue().splitlines()
-        self.assertEqual([line.split(":")[1].strip() for line in told], ["--gc-sections", "--no-such-word", "--require-defined f"])
+        self.assertEqual([line.split(":")[1].strip() for line in told], ["-Bsymbolic", "--no-such-word", "--require-defined f"])
+
+    def test_collects(self):
+        """As if --gc-sections stood before the words."""
+        for line, collects in (("a.o", True), ("--no-gc-sections a.o", False)):
+            self.assertEqual(words.read_words(line.split(), quiet(), True).collects, collects)
 
     def test_refused(self):
         for line in ("-u", "--defsym=a", "--version-script=no/such/file", "-b binary"):
@@ -443,6 +601,46 @@ class Whole(InFolder):
             with self.subTest(line=line):
                 found = self.manifest(line + " ends.o").get("linker_symbols", [])
                 self.assertEqual([entry["name"] for entry in found], defined)
+
+
+class Collected(InFolder):
+    """Whole manifests with --gc-sections: each row is some words, and the sections of an object that are kept."""
+
+    def setUp(self):
+        super().setUp()
+        sections = [section(b".text.f", 1, flags=CODE), section(b".text.g", 1, flags=CODE), section(b"steps", 1, flags=DATA)]
+        mine = object_bytes([(b"f", 0x12, 0, 1, 0), (b"g", 0x12, 0, 2, 0), (b"inner", 0x11, 2, 3, 0)], [*sections, relocated(1, [2, 2])])
+        others = object_bytes([(b"foo", 0x12, 0, 1, 0), (b"bar", 0x12, 2, 2, 0), (b"here", 0x12, 0, 3, 0)], sections)
+        files = {"a.o": mine, "b.o": others, "asks.o": object_bytes([(b"__start_steps", 0x10, 0, 0, 0)]), "x.so": shared_bytes()}
+        files |= {"list": b'{ g; "f*"; extern "C++" { f; }; /* f; */ };', "more": b'{ extern "C" { f; }; g?; };'}
+        self.write(files | {"keep.ld": b"SECTIONS { .text : { KEEP(*a.o(.text.[g-h] .symtab)) } }"})
+
+    def found(self, line, collects=False):
+        """What a manifest says of the sections of its first object."""
+        entry = json.loads(manifest_of(line.split(), quiet(), False, collects))["objects"][0]
+        return entry.get("section_refs"), entry.get("retain")
+
+    def test_keys(self):
+        """The keys stand where --gc-sections is in force."""
+        told = [{"from": 1, "to": 2}], []
+        rows = [("a.o", False, (None, None)), ("a.o --gc-sections", False, told), ("--gc-sections a.o --no-gc-sections", False, (None, None))]
+        rows += [("a.o", True, told), ("--no-gc-sections a.o", True, (None, None))]
+        for line, collects, found in rows:
+            with self.subTest(line=line, collects=collects):
+                self.assertEqual(self.found(line, collects), found)
+
+    def test_retained(self):
+        rows = [("a.o asks.o", [3]), ("a.o asks.o -z start-stop-gc", []), ("a.o asks.o -r", []), ("a.o --start-lib asks.o", [3]), ("a.o keep.ld", [2])]
+        rows += [("a.o -E", []), ("a.o -E -pie", [1, 2]), ("a.o --gc-keep-exported", [1, 2]), ("a.o -init g -fini=inner", [2, 3])]
+        rows += [("a.o -pie --dynamic-list=list", [2]), ("a.o -pie --dynamic-list=more", [1]), ("a.o --dynamic-list=list", [])]
+        rows += [("a.o -pie --export-dynamic-symbol=[g-z] --export-dynamic-symbol inner", [2])]
+        rows += [("b.o x.so", [1]), ("b.o x.so -shared", []), ("b.o", [])]
+        for line, retained in rows:
+            with self.subTest(line=line):
+                self.assertEqual(self.found(line, True)[1], retained)
+
+    def test_own_words(self):
+        self.assertEqual(own_words("--gc-sections --lenient-scripts a.o --gc-sections".split()), (["--gc-sections", "--lenient-scripts"], ["a.o", "--gc-sections"]))
 
 
 if __name__ == "__main__":

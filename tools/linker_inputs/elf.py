@@ -15,8 +15,9 @@ MAGIC = b"\x7fELF"
 RELOCATABLE, EXECUTABLE, SHARED = 1, 2, 3
 SYMBOL_TABLE, STRINGS, NO_BITS, DYNAMIC_SYMBOLS, GROUP, WIDE_INDEXES = 2, 3, 8, 11, 17, 18
 DYNAMIC, VERSION_DEFINITIONS, VERSION_NEEDS, VERSION_NUMBERS = 6, 0x6FFFFFFD, 0x6FFFFFFE, 0x6FFFFFFF
+COMPACT_RELOCATIONS = 0x40000014
 # Types of sections that bring nothing into an output by themselves: none, symbols, strings, relocations, groups.
-WITHOUT_OUTPUT = {0, 2, 3, 4, 9, 17, 18}
+WITHOUT_OUTPUT = {0, 2, 3, 4, 9, 17, 18, COMPACT_RELOCATIONS}
 IS_HIDDEN_VERSION = 0x8000
 
 BINDS = {0: ',"bind":"local"', 1: "", 2: ',"bind":"weak"', 10: ',"bind":"unique"'}
@@ -46,6 +47,7 @@ class Table:
         self.custom_sections = set()
         self.asked = set()  # of the names that a linker itself defines, those that this file asks for
         self.defined = set()  # and those that it defines
+        self.referring = None  # what `--gc-sections` asks of an object
 
 
 class ElfFile:
@@ -98,12 +100,14 @@ class ElfFile:
         return struct.unpack(f"{self.order}{len(data) // struct.calcsize(letter)}{letter}", data)
 
 
-def read_elf(name, data, warnings):
-    """The table of a relocatable or a shared file."""
+def read_elf(name, data, warnings, read_more=None):
+    """The table of a relocatable or a shared file. Of a relocatable one `read_more` tells what its sections refer to."""
     try:
         file = ElfFile(name, data)
         if file.type == RELOCATABLE:
-            return regular_table(file, warnings)
+            table = regular_table(file, warnings)
+            table.referring = read_more and read_more(file, table.groups, warnings)
+            return table
         if file.type == SHARED:
             return shared_table(file)
     except (struct.error, ValueError, IndexError):

@@ -7,6 +7,7 @@ import time
 
 from . import archives, elf, linker_script
 from .faults import Fault
+from .references import Referring
 from .search import Search
 
 INTERMEDIATE_CODE = (b"BC\xc0\xde", b"\xde\xc0\x17\x0b")
@@ -26,12 +27,16 @@ class Entry:
 class Inputs:
     """Reads the files of a command. Archives and shared objects count once each; objects and scripts, as often as they are named."""
 
+    referring = Referring  # what reads the sections of an object, where they are collected
+
     def __init__(self, command, warnings):
         self.warnings = warnings
         self.search = Search(command)
         self.entries = []
         self.scripts = []
         self.undefined = []
+        self.keeps = []
+        self.read_more = self.referring if command.collects else None
         self.read = {}  # the entries of each archive and shared object, by its real path
         self.read_scripts = set()
         self.open_scripts = []
@@ -97,7 +102,7 @@ class Inputs:
     def add_table(self, name, data, archive, state):
         """A file of symbols."""
         self.machines_agree(name, data)
-        table = elf.read_elf(name, data, self.warnings)
+        table = elf.read_elf(name, data, self.warnings, self.read_more)
         self.entries.append(Entry(table, archive and not table.dynamic, state))
         self.symbols += len(table.symbols)
         now = time.monotonic()
@@ -128,8 +133,9 @@ class Inputs:
         """What a script says beside its inputs."""
         self.search.folders += [self.search.rooted(folder) for folder in script.search]
         self.undefined += script.undefined
+        self.keeps += script.keeps
         if script.lays_out:
-            self.warnings.tell(script.name, "of SECTIONS, only the symbols that it defines are told")
+            self.warnings.tell(script.name, "of SECTIONS, only the symbols that it defines are told, and what its KEEP names")
         if script.entry is not None or script.version is not None or script.symbols:
             self.scripts.append(script)
 

@@ -3,6 +3,7 @@
 import re
 
 from .faults import Fault
+from .keep import Keep
 
 BLANK = re.compile(r"(?:\s+|/\*.*?\*/|#[^\n]*)+", re.S)
 WORD = re.compile(r"[A-Za-z_.$][\w.$]*")
@@ -31,6 +32,7 @@ class Script:
         self.version = None
         self.symbols = []  # name, targets, whether it is hidden, whether it is provided
         self.includes = []
+        self.keeps = []  # sections that stay with --gc-sections
         self.lays_out = False
 
 
@@ -94,6 +96,8 @@ class Reader:
             self.listed(word, self.enclosed("(", ")"))
         elif opening == "(" and word in DEFINING:
             self.provided(word)
+        elif opening == "(" and word == "KEEP":
+            self.script.keeps.append(Keep(self.enclosed("(", ")")))
         elif opening == "{" and word == "VERSION":
             self.script.version = self.enclosed("{", "}").strip()
         elif opening == "{" and word in BLOCKS:

@@ -12,8 +12,10 @@ from .manifest import MOST_BYTES, manifest_pieces
 from .response_files import expanded, joined, split
 from .words import read_words
 
-HELP = """tools/manifest [--lenient-scripts] LINKER WORDS
-tools/manifest [--lenient-scripts] --from-cc COMPILER WORDS
+# The tool's own words, which stand before all others.
+OWN = ("--lenient-scripts", "--gc-sections")
+HELP = """tools/manifest [--lenient-scripts] [--gc-sections] LINKER WORDS
+tools/manifest [--lenient-scripts] [--gc-sections] --from-cc COMPILER WORDS
 
 Reads the files of a link, and writes on standard output the manifest that `link` reads: which symbols each object has.
 
@@ -22,6 +24,8 @@ LINKER WORDS are those of ld: files, -l and -L, --start-group, --whole-archive, 
 and so on. Words that change nothing which a manifest tells are passed over; for those that would, there is a warning.
 With --from-cc, the compiler is asked (by -###) for the words that it would give to its linker; name objects, not
 sources. With --lenient-scripts, the last entry in a pair of braces of a version script or an export list needs no `;`.
+With --gc-sections, here or among the linker's words, the manifest also tells which sections refer to which symbols, and
+which are kept in any case.
 
 Read are ELF objects of 64 bits, archives (thin ones too), shared objects and linker scripts.
 Ends with 0, or with 1 and one line `error: FILE: ..` on standard error. Warnings and progress come on standard error
@@ -70,9 +74,9 @@ def told_words_at_length(words, folder):
     return told
 
 
-def manifest_of(words, warnings, lenient_scripts=False):
-    """The bytes of the manifest that a linker's words ask for."""
-    command = read_words(words, warnings)
+def manifest_of(words, warnings, lenient_scripts=False, collects=False):
+    """The bytes of the manifest that a linker's words ask for; with `collects` as if `--gc-sections` stood before them."""
+    command = read_words(words, warnings, collects)
     command.lenient_scripts = lenient_scripts
     inputs = Inputs(command, warnings)
     if not inputs.entries:
@@ -81,6 +85,12 @@ def manifest_of(words, warnings, lenient_scripts=False):
     if len(written) > MOST_BYTES:
         raise Fault("manifest", f"would have {len(written)} bytes, and the program reads {MOST_BYTES}")
     return written
+
+
+def own_words(words):
+    """The tool's own words with which some words begin, and the rest of them."""
+    count = next((place for place, word in enumerate(words) if word not in OWN), len(words))
+    return words[:count], words[count:]
 
 
 def main(words):
@@ -92,12 +102,10 @@ def main(words):
         print(HELP, end="")
         return 0
     try:
-        lenient_scripts = words[:1] == ["--lenient-scripts"]
-        if lenient_scripts:
-            words = words[1:]
+        own, words = own_words(words)
         if words[:1] == ["--from-cc"]:
             words = words_of_compiler(words[1:])
-        sys.stdout.buffer.write(manifest_of(words, Warnings(), lenient_scripts))
+        sys.stdout.buffer.write(manifest_of(words, Warnings(), *(word in own for word in OWN)))
         sys.stdout.flush()
     except Fault as fault:
         print(f"error: {os.fsencode(str(fault)).decode('utf-8', 'backslashreplace')}", file=sys.stderr)

@@ -5,6 +5,7 @@ import os
 
 from .linker_symbols import linker_symbols
 from .names import json_of
+from .retained import Retained
 
 MOST_BYTES = 2**28
 
@@ -37,8 +38,8 @@ def script_json(script):
     return "{" + ",".join(parts) + "}"
 
 
-def object_json(entry):
-    """An object, with its symbols as they were read."""
+def object_json(entry, retained):
+    """An object, with its symbols as they were read, and with its references where sections are collected."""
     table = entry.table
     parts = ['"name":' + text(table.name)]
     marks = {"dynamic": table.dynamic, "archive": entry.archive, "whole_archive": entry.whole_archive, "as_needed": entry.as_needed}
@@ -49,6 +50,10 @@ def object_json(entry):
     parts.append('"symbols":[' + ",".join(table.symbols) + "]")
     if table.groups:
         parts.append('"groups":' + json.dumps(table.groups, separators=(",", ":")))
+    if table.referring:
+        pairs = ",".join(f'{{"from":{section},"to":{symbol}}}' for section, symbol in sorted(table.referring.pairs))
+        parts.append(f'"section_refs":[{pairs}]')
+        parts.append('"retain":' + json.dumps(retained.of(entry), separators=(",", ":")))
     return "{" + ",".join(parts) + "}"
 
 
@@ -92,9 +97,10 @@ def manifest_pieces(command, inputs):
         yield ',"script_profile":2'
     if command.soname is not None:
         yield ',"soname":' + json_of(os.fsencode(command.soname))
+    retained = Retained(command, inputs, output) if command.collects else None
     yield ',"objects":['
     for place, entry in enumerate(inputs.entries):
-        yield (",\n" if place else "\n") + object_json(entry)
+        yield (",\n" if place else "\n") + object_json(entry, retained)
     yield "]"
     if inputs.scripts:
         yield ',"scripts":[' + ",".join(script_json(script) for script in inputs.scripts) + "]"

@@ -34,19 +34,22 @@ class Command:
         self.defsym = []  # name, targets
         self.version_script = self.export_list = self.soname = None
         self.lenient_scripts = False  # no word of a linker: the tool's own
+        self.collects = False  # --gc-sections, and what changes which sections it keeps
+        self.keeps_exported = self.exports_all = self.drops_named_sections = False
+        self.first_call, self.last_call = "_init", "_fini"
 
 
 # Words with a value, perhaps in the next word, that change nothing which a manifest tells.
 SKIPPED_WITH_VALUE = set(
     """output o m I dynamic-linker rpath rpath-link plugin plugin-opt G f auxiliary F filter Map y trace-symbol
-    init fini assert audit depaudit P Y hash-style sort-section Ttext Tdata Tbss Ttext-segment Trodata-segment section-start
+    assert audit depaudit P Y hash-style sort-section Ttext Tdata Tbss Ttext-segment Trodata-segment section-start
     oformat architecture A dependency-file""".split()
 )
 # Words without a value, or with one behind `=`, that change nothing which a manifest tells.
 SKIPPED = set(
-    """start-group end-group E export-dynamic no-export-dynamic s strip-all S strip-debug x discard-all X discard-locals n nmagic
+    """start-group end-group s strip-all S strip-debug x discard-all X discard-locals n nmagic
     N omagic no-omagic d dc dp t trace M print-map print-map-file cref eh-frame-hdr no-eh-frame-hdr build-id relax no-relax q
-    emit-relocs EL EB no-undefined no-gc-sections warn-common fatal-warnings no-fatal-warnings enable-new-dtags disable-new-dtags
+    emit-relocs EL EB no-undefined warn-common fatal-warnings no-fatal-warnings enable-new-dtags disable-new-dtags
     demangle no-demangle g O no-ld-generated-unwind-info ld-generated-unwind-info gdb-index color-diagnostics no-undefined-version
     undefined-version allow-shlib-undefined no-allow-shlib-undefined v V version verbose no-keep-memory reduce-memory-overheads
     stats sort-common no-warn-mismatch no-warnings warn-unresolved-symbols error-unresolved-symbols noinhibit-exec nostdlib
@@ -57,7 +60,6 @@ SKIPPED = set(
 )
 # Words that change a link, or what it says of symbols, in a way that a manifest doesn't tell.
 UNTOLD = {
-    "gc-sections": "sections that nothing needs are kept",
     "exclude-libs": "symbols of archives stay exported",
     "Bsymbolic": "flags don't tell that symbols are bound inside the output",
     "Bsymbolic-functions": "flags don't tell that symbols are bound inside the output",
@@ -84,6 +86,9 @@ SWITCHES = {
     "shared": ("output", "shared"), "Bshareable": ("output", "shared"),
     "r": ("output", "partial"), "i": ("output", "partial"), "relocatable": ("output", "partial"), "Ur": ("output", "partial"),
     "allow-multiple-definition": ("allow_multiple", True), "no-allow-multiple-definition": ("allow_multiple", False),
+    "gc-sections": ("collects", True), "no-gc-sections": ("collects", False),
+    "gc-keep-exported": ("keeps_exported", True), "no-gc-keep-exported": ("keeps_exported", False),
+    "export-dynamic": ("exports_all", True), "E": ("exports_all", True), "no-export-dynamic": ("exports_all", False),
 }  # fmt: skip
 STATES = {
     "static": ("shared", False), "Bstatic": ("shared", False), "dn": ("shared", False), "non_shared": ("shared", False),
@@ -159,6 +164,8 @@ class WordReader:
         """A word behind `-z`."""
         if value == "muldefs":
             self.command.allow_multiple = True
+        elif value in ("start-stop-gc", "nostart-stop-gc"):
+            self.command.drops_named_sections = value == "start-stop-gc"
 
     def set_entry(self, value):
         """The entry point, where it is a name; an address is none."""
@@ -206,6 +213,11 @@ def listing(attribute):
     return lambda reader, value: getattr(reader.command, attribute).append(value)
 
 
+def setting(attribute):
+    """An option whose last value counts."""
+    return lambda reader, value: setattr(reader.command, attribute, value)
+
+
 def input_of(kind):
     """An option that names an input."""
     return lambda reader, value: reader.add_input(kind, value)
@@ -218,6 +230,7 @@ VALUED = {
     "wrap": listing("wrap"), "export-dynamic-symbol": listing("force_export"), "defsym": WordReader.add_redirect,
     "e": WordReader.set_entry, "entry": WordReader.set_entry, "z": WordReader.set_keyword,
     "soname": WordReader.set_soname, "h": WordReader.set_soname,
+    "init": setting("first_call"), "fini": setting("last_call"),
     "b": WordReader.set_format, "format": WordReader.set_format,
     "sysroot": lambda reader, value: setattr(reader.command, "system_root", value.rstrip("/")),
     "version-script": lambda reader, value: reader.set_text("version_script", value, "version script"),
@@ -230,6 +243,8 @@ PLAIN = {
 }
 
 
-def read_words(words, warnings):
-    """The command that some words make."""
-    return WordReader(words, warnings).read()
+def read_words(words, warnings, collects=False):
+    """The command that some words make; `collects` is as if `--gc-sections` stood before them."""
+    reader = WordReader(words, warnings)
+    reader.command.collects = collects
+    return reader.read()
