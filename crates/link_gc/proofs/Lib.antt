@@ -1,0 +1,14 @@
+pub mod Alike
+pub mod AllEdges
+pub mod Behind
+pub mod Collected
+pub mod Ended
+pub mod Exported
+pub mod Gathered
+pub mod Hubs
+pub mod Lines
+pub mod Living
+pub mod MarkedItems
+pub mod Numbering
+pub mod Placed
+pub mod Rooted
