@@ -11,7 +11,7 @@ import subprocess
 import sys
 
 WORLDS = ["rows", "script_rows", "guard_rows", "rival_rows", "worlds", "batch_rows", "batch_worlds"]
-COMMANDS = ["command_rows", "claim_rows"]
+COMMANDS = ["command_rows", "claim_rows", "gc_rows"]
 WORKERS = [1, 2, 7, 256]
 
 

@@ -16,6 +16,9 @@ from .store import CHECKED, PROVED, Store, sources_of
 
 TOP = pathlib.Path(__file__).resolve().parents[2]
 NAME = "link_program"
+# The commands that link, by the word that asks for them behind `files`, with the words of tools/manifest that each needs.
+LINKING = {None: "link", "--why": "why", "--gc": "gc"}
+MANIFEST_WORDS = {"gc": ["--gc-sections"]}
 VERSION = "wolzhyke 0.1.0, with the behaviour of libwild 0.11.0"
 MOST_WORKERS, MOST_MEMBERS = 256, 100000
 # Two statuses of the program, and those that are not its: no manifest can be made of the files, the program can't be built, and an
@@ -27,8 +30,10 @@ HELP = """wolzhyke: which files a link loads, and which definition each symbol m
 
     ./wolzhyke files [W] -- LINKER WORDS         from object files, archives and shared objects to a report
     ./wolzhyke files [W] --why -- LINKER WORDS   why each of them is loaded, and which definition of a name counts
+    ./wolzhyke files [W] --gc -- LINKER WORDS    which sections --gc-sections keeps, whether it is among the words or not
     ./wolzhyke link [W] < MANIFEST               from a manifest (JSON) to a report
     ./wolzhyke why [W] < MANIFEST                why each object is loaded, and which definition of a name counts
+    ./wolzhyke gc [W] < MANIFEST                 which sections are live, if those that nothing needs are thrown away
     ./wolzhyke check < MANIFEST                  whether an answer that the manifest claims is that of its link
     ./wolzhyke verdef < MANIFEST                 the version definitions that its version script makes
     ./wolzhyke bulk N [W]                        the summary of a made-up link of N archive members, 1 to 100000
@@ -123,8 +128,8 @@ def workers():
 
 def with_workers(words):
     """The words with the number of workers that they leave out."""
-    left_out = words in (["link"], ["why"]) or words[:1] == ["bulk"] and len(words) == 2
-    left_out = left_out or words[:2] == ["files", "--"] or words[:3] == ["files", "--why", "--"]
+    left_out = len(words) == 1 and words[0] in LINKING.values() or words[:1] == ["bulk"] and len(words) == 2
+    left_out = left_out or words[:2] == ["files", "--"] or words[:1] == ["files"] and words[2:3] == ["--"] and words[1] in LINKING
     if not left_out:
         return words
     at = 2 if words[0] == "bulk" else 1
@@ -137,7 +142,7 @@ def is_command(words):
         return len(words) == 3 and is_count(words[1], MOST_MEMBERS) and is_count(words[2], MOST_WORKERS)
     if words in (["check"], ["verdef"]):
         return True
-    is_link = words[:1] in (["link"], ["why"]) and len(words) == 2 and is_count(words[1], MOST_WORKERS)
+    is_link = len(words) == 2 and words[0] in LINKING.values() and is_count(words[1], MOST_WORKERS)
     return is_link or of_files(words) is not None
 
 
@@ -145,7 +150,7 @@ def of_files(words):
     """What the program does with a manifest that is made first, and the linker's words that it is made of; None of other words."""
     if words[:1] != ["files"] or len(words) < 3 or not is_count(words[1], MOST_WORKERS):
         return None
-    command, rest = ("why", words[3:]) if words[2] == "--why" else ("link", words[2:])
+    command, rest = (LINKING[words[2]], words[3:]) if words[2] in LINKING else (LINKING[None], words[2:])
     return (command, rest[1:]) if rest[:1] == ["--"] else None
 
 
@@ -175,7 +180,7 @@ def run(words):
         if ask_for_help(linker_words):
             return say(HELP)
         try:
-            manifest = manifest_of(linker_words)
+            manifest = manifest_of([*MANIFEST_WORDS.get(command, []), *linker_words])
         except OSError as reason:
             tell(f"error: manifest: {reason.strerror}\n")
             manifest = None

@@ -11,6 +11,7 @@ use Rattle.link_check.specs.declared.verdict.Verdict.TheVariants.{Holds, FailsLo
 use Rattle.link_check_claims.specs.declared.claim.Claim.{Claim}
 use Rattle.link_check_texts.specs.Causes.{opening_refusal}
 use Rattle.link_input.specs.InputFiles.{Batch}
+use Rattle.link_gc_sections.specs.SectionText.{IsSectionText}
 use Rattle.link_rules.specs.Linked.{Linked as Answer}
 use Rattle.link_rules.specs.declared.refusal.LinkError.{LinkError}
 use Rattle.link_rules.specs.declared.refusal.LinkError.TheVariants as refusal
@@ -31,6 +32,7 @@ use Rattle.link_program.specs.declared.run.Told.TheVariants.{Summary}
 use Rattle.link_program.specs.Grammar.{IsBulk}
 use Rattle.link_program.specs.Described.{error_line, given_of, world_of_manifest}
 use Rattle.link_program.specs.Outcome.{told_text, text_read, IsReadText, IsSummary, IsTextFor, IsTextOf, IsTextRead, IsToldOf, IsWholeText, IsWorldText}
+use Rattle.link_program.specs.Gc.{IsGcReport}
 use Rattle.link_program.specs.Why.{IsWhyReport}
 use Rattle.link_program.specs.Check.{IsJudged, IsOfBatches, IsOfClaim, IsOfManifest, verdict_ending}
 use Rattle.link_program.specs.Verdef.{manifest_ending, refused_or, soname_ending, IsVerdefOf}
@@ -111,6 +113,7 @@ check-answers (Ok m) ending held = claim-answers (world_of_manifest m) m.claim e
 answers-read : (reading : Reading) (bytes : Bytes) (s : Status) (text : Bytes) → text_read reading bytes s text → IsAnswer s
 answers-read (asked.Link workers) bytes s text held = link-answers IsReport bytes s text held
 answers-read (asked.Why workers) bytes s text held = link-answers IsWhyReport bytes s text held
+answers-read (asked.Gc workers) bytes s text held = link-answers IsGcReport bytes s text held
 answers-read asked.Verdef bytes s text held = verdef-answers bytes s text held
 answers-read asked.Check bytes s text held = check-answers (manifest_of bytes) (s, text) held
 
@@ -164,6 +167,10 @@ summary-of members Fails text some few held = absurd held
 -- a link that stands ends with what is told of it
 pub linked-text : (w : World) (tell : Answer → Bytes) (linked : Answer) (s : Status) (text : Bytes) → IsLinked w linked → s ≡ Linked → text ≡ tell linked → IsWorldText w (IsToldOf w tell) s text
 linked-text w tell linked s text is ends line = subst (λ t. IsWorldText w (IsToldOf w tell) t text) (sym ends) (linked, is, line)
+
+-- or with the text of its sections
+pub sections-text : (w : World) (linked : Answer) (s : Status) (text : Bytes) → IsLinked w linked → s ≡ Linked → IsSectionText w text → IsWorldText w (IsGcReport w) s text
+sections-text w linked s text is ends told = subst (λ t. IsWorldText w (IsGcReport w) t text) (sym ends) (linked, is, told)
 
 -- a refused link ends with the text of its cause
 pub refused-text : (w : World) (IsTold : Bytes → Type 0) (e : LinkError) (s : Status) (text : Bytes) → IsRefused w e ⊎ (e ≡ refusal.Memory) → e ≢ refusal.Memory → s ≡ Refused

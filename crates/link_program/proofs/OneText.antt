@@ -1,5 +1,5 @@
 -- What is due is written, unless a fault comes between or memory runs out.
-use Rattle.std.proofs.Common.{◌≡◌, ◌⊎◌, ℕ, inl, inr, List, [], ◌∷◌, ◌++◌, Option, Some, None, IsSome, Result, Ok, Err, codes, refl, sym, ◌∙◌, subst, ap}
+use Rattle.std.proofs.Common.{◌≡◌, ◌⊎◌, ℕ, inl, inr, Bool, List, [], ◌∷◌, ◌++◌, Option, Some, None, IsSome, Result, Ok, Err, codes, refl, sym, ◌∙◌, subst, ap}
 use Rattle.link_rules.specs.Places.{Bytes}
 use Rattle.std.specs.Prelude.{decimal}
 use Rattle.link_manifest_bulk.specs.Bulk.{bulk_objects}
@@ -7,6 +7,9 @@ use Rattle.link_manifest_bulk.specs.World.{bulk_world}
 use Rattle.link_check.proofs.OneVerdict.{one-verdict}
 use Rattle.link_check_claims.specs.declared.claim.Claim.{Claim}
 use Rattle.link_check_texts.specs.Causes.{opening_refusal}
+use Rattle.link_closure.proofs.Least.{one-least}
+use Rattle.link_gc_sections.specs.LiveSections.{AreLive, IsRootNumber, KeepsNumber, section_count}
+use Rattle.link_gc_sections.specs.SectionText.{section_text}
 use Rattle.link_input.specs.InputFiles.{Batch}
 use Rattle.link_rules.specs.declared.refusal.LinkError.{LinkError}
 use Rattle.link_rules.specs.Linked.{Linked as Answer}
@@ -15,10 +18,11 @@ use Rattle.link_rules.specs.Answer.{IsLinked, IsRefused, IsReport, IsRefusalText
 use Rattle.link_rules.specs.Explained.{Explains}
 use Rattle.link_rules.specs.FoundRoots.{found_roots}
 use Rattle.link_rules.specs.Selection.{Selection}
+use Rattle.link_rules.specs.Undefined.{Resolution, resolved}
 use Rattle.link_rules.specs.World.{Stage, World, start_of}
 use Rattle.link_rules.proofs.AllRoots.{passes-once}
 use Rattle.link_rules.proofs.Explaining.{one-explanation}
-use Rattle.link_rules.proofs.WorldOnce.{one-linked, one-report, one-refusal_text, not-both}
+use Rattle.link_rules.proofs.WorldOnce.{one-last, one-linked, one-report, one-refusal_text, not-both}
 use Rattle.link_manifest.specs.declared.fault.ManifestFault.{ManifestFault}
 use Rattle.link_manifest.specs.declared.manifest.Manifest.{Manifest as Described}
 use Rattle.link_manifest.specs.FaultText.{fault_text}
@@ -31,6 +35,7 @@ use Rattle.link_program.specs.declared.status.Status.TheVariants.{Linked, Refuse
 use Rattle.link_program.specs.Grammar.{IsBulk, IsNoCommand, IsReading, ReadsManifest, command_read}
 use Rattle.link_program.specs.Described.{error_line, world_of_manifest}
 use Rattle.link_program.specs.Outcome.{IsDue, IsReadText, IsSummary, IsSummaryFor, IsTextFor, IsTextOf, IsTextRead, IsWholeText, text_read}
+use Rattle.link_program.specs.Gc.{IsGcReport}
 use Rattle.link_program.specs.Check.{IsCheckOf, IsJudged, IsOfBatches, IsOfClaim, IsOfManifest, verdict_ending}
 use Rattle.link_program.specs.Verdef.{IsVerdefOf}
 use Rattle.link_program.specs.Why.{IsWhyReport}
@@ -117,6 +122,14 @@ why-one w a b (linked, done, (ws, l, e, passes, is, line)) (linked', done', (vs,
     let text : Selection → Explanation → Bytes = λ x y. why_text (name_at x.stage.symbols) (version_at x.stage.symbols) y in
     line ∙ (ap (text l) one ∙ (ap (λ (x : Selection). text x e') same.1 ∙ sym line'))
 
+-- the live sections of a link are one set, and so there is one text of them
+gc-one : (w : World) (a b : Bytes) → IsGcReport w a → IsGcReport w b → a ≡ b
+gc-one w a b (linked, done, (l, live, ends, first, line)) (linked', done', (k, live', ends', second, line')) =
+    let same = one-last w l k ends ends' in
+    let r : Resolution = resolved k in
+    let one = one-least (IsRootNumber r) (KeepsNumber r) (section_count r.selection.stage) live live' (subst (λ (x : Selection). AreLive (resolved x) live) same first) second in
+    line ∙ (ap (λ (x : Selection). section_text x live) same ∙ (ap (λ (marks : List Bool). section_text k marks) one ∙ sym line'))
+
 -- and end `verdef` in one way
 one-verdef : (bytes : Bytes) (s t : Status) (a b : Bytes) → IsVerdefOf bytes s a → IsVerdefOf bytes t b → (s ≡ t) × (a ≡ b)
 one-verdef bytes s t a b held held' =
@@ -193,6 +206,7 @@ bulk-is_command words n (workers, is) none = none (Bulk n workers) is
 reads-not_bulk : (words : List Bytes) (n : ℕ) → ReadsManifest words → IsBulk words n → ⊥
 reads-not_bulk words n (asked.Link w, is) (workers', is') = let same = is.0 in let same' = is'.0 in cc
 reads-not_bulk words n (asked.Why w, is) (workers', is') = let same = is.0 in let same' = is'.0 in cc
+reads-not_bulk words n (asked.Gc w, is) (workers', is') = let same = is.0 in let same' = is'.0 in cc
 reads-not_bulk words n (asked.Verdef, is) (workers', is') = let same = is.0 in let same' = is'.0 in cc
 reads-not_bulk words n (asked.Check, is) (workers', is') = let same = is.0 in let same' = is'.0 in cc
 
@@ -203,6 +217,7 @@ reads-of words left s text held = (held.0, held.1)
 one-of : (reading : Reading) → IsOne (text_read reading)
 one-of (asked.Link workers) = one-text IsReport one-report (λ w a held. (held.0, held.1))
 one-of (asked.Why workers) = one-text IsWhyReport why-one (λ w a held. (held.0, held.1))
+one-of (asked.Gc workers) = one-text IsGcReport gc-one (λ w a held. (held.0, held.1))
 one-of asked.Verdef = one-verdef
 one-of asked.Check = one-check
 
@@ -210,20 +225,10 @@ one-of asked.Check = one-check
 same-reading : (words : List Bytes) (r q : Reading) → IsReading words r → IsReading words q → (bytes : Bytes) (s : Status) (text : Bytes) → text_read q bytes s text → text_read r bytes s text
 same-reading words (asked.Link n) (asked.Link m) is is' bytes s text held = held
 same-reading words (asked.Why n) (asked.Why m) is is' bytes s text held = held
+same-reading words (asked.Gc n) (asked.Gc m) is is' bytes s text held = held
 same-reading words asked.Verdef asked.Verdef is is' bytes s text held = held
 same-reading words asked.Check asked.Check is is' bytes s text held = held
-same-reading words asked.Check (asked.Link m) is is' bytes s text held = let same = is.0 in let same' = is'.0 in absurd cc
-same-reading words asked.Check (asked.Why m) is is' bytes s text held = let same = is.0 in let same' = is'.0 in absurd cc
-same-reading words asked.Check asked.Verdef is is' bytes s text held = let same = is.0 in let same' = is'.0 in absurd cc
-same-reading words (asked.Link n) asked.Check is is' bytes s text held = let same = is.0 in let same' = is'.0 in absurd cc
-same-reading words (asked.Why n) asked.Check is is' bytes s text held = let same = is.0 in let same' = is'.0 in absurd cc
-same-reading words asked.Verdef asked.Check is is' bytes s text held = let same = is.0 in let same' = is'.0 in absurd cc
-same-reading words (asked.Link n) (asked.Why m) is is' bytes s text held = let same = is.0 in let same' = is'.0 in absurd cc
-same-reading words (asked.Why n) (asked.Link m) is is' bytes s text held = let same = is.0 in let same' = is'.0 in absurd cc
-same-reading words (asked.Link n) asked.Verdef is is' bytes s text held = let same = is.0 in let same' = is'.0 in absurd cc
-same-reading words (asked.Why n) asked.Verdef is is' bytes s text held = let same = is.0 in let same' = is'.0 in absurd cc
-same-reading words asked.Verdef (asked.Link m) is is' bytes s text held = let same = is.0 in let same' = is'.0 in absurd cc
-same-reading words asked.Verdef (asked.Why m) is is' bytes s text held = let same = is.0 in let same' = is'.0 in absurd cc
+same-reading words r q is is' bytes s text held = let same = is.0 in let same' = is'.0 in absurd cc
 
 -- the words and a source that tells have one status and one text, where the source doesn't fail
 one-read : (words : List Bytes) (left : Option Bytes) (s t : Status) (a b : Bytes) → IsSome left → (s ≡ ReadFault → ⊥) → (t ≡ ReadFault → ⊥)

@@ -31,6 +31,7 @@ pub fault-read : (reading : Reading) (bytes : Bytes) (fault : ManifestFault) (te
     → text_read reading bytes Manifest text
 fault-read (asked.Link workers) bytes fault text fails line = (fault, fails, line)
 fault-read (asked.Why workers) bytes fault text fails line = (fault, fails, line)
+fault-read (asked.Gc workers) bytes fault text fails line = (fault, fails, line)
 fault-read asked.Verdef bytes fault text fails line = ap manifest_ending fails ∙ ap (λ (t : Bytes). (Manifest, t)) (sym line)
 fault-read asked.Check bytes fault text fails line = rw fails (ap (λ (t : Bytes). (Manifest, t)) line)
 

@@ -2,7 +2,7 @@
 use Rattle.std.specs.Prelude.{◌≡◌, ◌⊎◌, ℕ, ◌≤◌, List, [], ◌∷◌, codes, decimal}
 use Rattle.link_rules.specs.Places.{Bytes}
 use Rattle.link_program.specs.declared.command.Command.{Command}
-use Rattle.link_program.specs.declared.command.Command.TheVariants.{Link, Why, Bulk, Verdef, Check}
+use Rattle.link_program.specs.declared.command.Command.TheVariants.{Link, Why, Gc, Bulk, Verdef, Check}
 use Rattle.link_program.specs.declared.run.Reading.{Reading}
 use Rattle.link_program.specs.declared.run.Reading.TheVariants as asked
 
@@ -10,6 +10,7 @@ use Rattle.link_program.specs.declared.run.Reading.TheVariants as asked
 abbrev pub words_of : Command → List Bytes
 words_of (Link workers) = codes "link" ∷ decimal workers ∷ []
 words_of (Why workers) = codes "why" ∷ decimal workers ∷ []
+words_of (Gc workers) = codes "gc" ∷ decimal workers ∷ []
 words_of (Bulk members workers) = codes "bulk" ∷ decimal members ∷ decimal workers ∷ []
 words_of Verdef = codes "verdef" ∷ []
 words_of Check = codes "check" ∷ []
@@ -18,6 +19,7 @@ words_of Check = codes "check" ∷ []
 abbrev pub IsInRange : Command → Type 0
 IsInRange (Link workers) = (1 ≤ workers) × (workers ≤ 256)
 IsInRange (Why workers) = (1 ≤ workers) × (workers ≤ 256)
+IsInRange (Gc workers) = (1 ≤ workers) × (workers ≤ 256)
 IsInRange (Bulk members workers) = ((1 ≤ members) × (members ≤ 100000)) × ((1 ≤ workers) × (workers ≤ 256))
 IsInRange Verdef = Unit {0}
 IsInRange Check = Unit {0}
@@ -33,6 +35,7 @@ IsBulk words members = (workers : ℕ) × IsCommand words (Bulk members workers)
 abbrev pub command_read : Reading → Command
 command_read (asked.Link workers) = Link workers
 command_read (asked.Why workers) = Why workers
+command_read (asked.Gc workers) = Gc workers
 command_read asked.Verdef = Verdef
 command_read asked.Check = Check
 

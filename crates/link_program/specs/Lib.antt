@@ -4,4 +4,5 @@ pub mod Grammar
 pub mod Verdef
 pub mod Check
 pub mod Why
+pub mod Gc
 pub mod Outcome

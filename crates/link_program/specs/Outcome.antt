@@ -22,6 +22,7 @@ use Rattle.link_program.specs.declared.status.Status.{Status}
 use Rattle.link_program.specs.declared.status.Status.TheVariants.{Linked, Refused, Usage, Manifest, ReadFault, WriteFault, Memory, Fails}
 use Rattle.link_program.specs.Check.{IsCheckOf}
 use Rattle.link_program.specs.Described.{error_line, world_of_manifest}
+use Rattle.link_program.specs.Gc.{IsGcReport}
 use Rattle.link_program.specs.Grammar.{IsBulk, IsInRange, IsNoCommand, IsReading, command_read}
 use Rattle.link_program.specs.Verdef.{IsVerdefOf}
 use Rattle.link_program.specs.Why.{IsWhyReport}
@@ -97,6 +98,7 @@ IsReadText IsOf left Memory text = ⊥
 abbrev pub text_read : Reading → Bytes → Status → Bytes → Type 0
 text_read (asked.Link workers) = IsTextOf IsReport
 text_read (asked.Why workers) = IsTextOf IsWhyReport
+text_read (asked.Gc workers) = IsTextOf IsGcReport
 text_read asked.Verdef = IsVerdefOf
 text_read asked.Check = IsCheckOf
 

@@ -18,6 +18,8 @@ pub enum Command {
     Bulk { members: usize, workers: usize },
     /// `why W`: they are linked so, and why each object is loaded is written.
     Why { workers: usize },
+    /// `gc W`: they are linked so, and which sections are live is written.
+    Gc { workers: usize },
     /// `verdef`: the version definitions that the manifest's version script makes are written.
     Verdef,
     /// `check`: the claim that the manifest makes of the link is judged.
@@ -39,6 +41,10 @@ pub fn command_of(words: &[Word]) -> Option<Command>
         [name, workers] if name.as_str() == "why" => {
             let workers = number_of(workers, MAX_WORKERS)?;
             Some(Command::Why { workers })
+        }
+        [name, workers] if name.as_str() == "gc" => {
+            let workers = number_of(workers, MAX_WORKERS)?;
+            Some(Command::Gc { workers })
         }
         [name, members, workers] if name.as_str() == "bulk" => {
             let members = number_of(members, MAX_MEMBERS)?;

@@ -1,14 +1,15 @@
 //! Links the objects of a manifest: `link W` reads it from standard input, and writes to standard
 //! output which objects are loaded and what each symbol means. `why W` reads it too, and writes why each
-//! object is loaded and which of several definitions counts. `verdef` writes the version definitions
-//! that the manifest's version script makes. `bulk N W` links a made-up world, and sums up what that
-//! gives.
+//! object is loaded and which of several definitions counts. `gc W` reads it too, and writes which sections
+//! are live. `verdef` writes the version definitions that the manifest's version script makes. `bulk N W`
+//! links a made-up world, and sums up what that gives.
 #![tactic(auto)]
 
 mod answer;
 mod arguments;
 mod check;
 mod command;
+mod gc;
 mod run;
 mod status;
 #[cfg(test)]

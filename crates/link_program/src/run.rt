@@ -18,6 +18,7 @@ ghost use Rattle.link_program.specs.Outcome.{IsCutShort, IsDue, IsOfWholeSource,
 use crate::answer::{Answer, error_answer, fault_answer, refusal_answer};
 use crate::check::check_of_manifest;
 use crate::command::{Command, command_of};
+use crate::gc::sections_of_manifest;
 use crate::status::Status;
 use crate::verdef::verdef_of_manifest;
 use crate::why::why_of_manifest;
@@ -42,6 +43,7 @@ use std::thread::Threads;
 pub enum Reading {
     Link { workers: usize },
     Why { workers: usize },
+    Gc { workers: usize },
     Verdef,
     Check,
 }
@@ -56,7 +58,8 @@ pub enum Told {
 
 /// Runs the command that the words write, and writes its answer to the sink. `link` reads what the
 /// source has left as a manifest, and reports what a link of it gives; `why` reads and links it as
-/// `link` does, and writes why each object is loaded and which of several definitions counts;
+/// `link` does, and writes why each object is loaded and which of several definitions counts; `gc`
+/// reads and links it so too, and writes which sections are live;
 /// `verdef` reads it too, and writes the version definitions that its version script makes; `check`
 /// judges the claim that it makes of the link; `bulk` reads nothing, and sums up what a link of a
 /// made-up world gives.
@@ -129,6 +132,9 @@ fn answer_to<R: Threads + Sync, S: Source>(
         Some(Command::Why { workers }) => {
             answer_to_source(rt, alloc, Reading::Why { workers }, source)
         }
+        Some(Command::Gc { workers }) => {
+            answer_to_source(rt, alloc, Reading::Gc { workers }, source)
+        }
         Some(Command::Bulk { members, workers }) => answer_to_bulk(rt, alloc, members, workers),
         Some(Command::Verdef) => answer_to_source(rt, alloc, Reading::Verdef, source),
         Some(Command::Check) => answer_to_source(rt, alloc, Reading::Check, source),
@@ -181,6 +187,7 @@ fn answer_to_bytes<R: Threads + Sync>(
                 answer_to_manifest(rt, alloc, workers, Told::Report, manifest.world)
             }
             Reading::Why { workers } => why_of_manifest(rt, alloc, workers, manifest.world),
+            Reading::Gc { workers } => sections_of_manifest(rt, alloc, workers, manifest.world),
             Reading::Verdef => verdef_of_manifest(alloc, manifest.world),
             Reading::Check => check_of_manifest(alloc, manifest),
         },

@@ -28,6 +28,13 @@ returns-in_ok-workers-in-len2-2-clause-command c =
     let made = c.in_ok-workers-in-len2-2.ensures in
     (two-words c.args.words.now c.name-item-then-words-lt3-2.result c.workers-item-then-words-lt3.result _ _ two c.name-item-then-words-lt3-2.is c.workers-item-then-words-lt3.is name made.number, made.in_range)
 
+pub returns-in_ok-workers-in-len2-3-clause-command : goal.returns-in_ok-workers-in-len2-3-clause-command
+returns-in_ok-workers-in-len2-3-clause-command c =
+    let two : length c.args.words.now ≡ 2 = omega (arith, c.in-len2.len_at_least, c.in-len2.len_below) in
+    let name : c.name-item-then-words-lt3-3.result ≡ codes "gc" = search rules in
+    let made = c.in_ok-workers-in-len2-3.ensures in
+    (two-words c.args.words.now c.name-item-then-words-lt3-3.result c.workers-item-then-words-lt3-2.result _ _ two c.name-item-then-words-lt3-3.is c.workers-item-then-words-lt3-2.is name made.number, made.in_range)
+
 pub returns-in_ok-workers-in-len3-clause-command : goal.returns-in_ok-workers-in-len3-clause-command
 returns-in_ok-workers-in-len3-clause-command c =
     let three : length c.args.words.now ≡ 3 = omega (arith, c.in-len3.len_at_least, c.in-len3.len_below) in

@@ -1,7 +1,7 @@
 use Rattle.std.proofs.Common.{refl, subst}
 use Rattle.link_program_streams.proofs.Flow.{gives-at_most_nothing}
 use Rattle.link_program.specs.declared.command.Command.{Command}
-use Rattle.link_program.specs.declared.run.Reading.TheVariants.{Check, Link, Verdef, Why}
+use Rattle.link_program.specs.declared.run.Reading.TheVariants.{Check, Gc, Link, Verdef, Why}
 use Rattle.link_program.specs.Grammar.{IsCommand}
 use Rattle.link_program.proofs.OfWorld.{bulk-text, words-text, ok-into}
 use Rattle.link_program.proofs.run.answer_to.Goals as goal
@@ -17,6 +17,12 @@ returns-in-Some-Why-clause-text g c =
     ok-into c.answer_to_source-in-Some-Why.result _ _ (λ a held. words-text c.args.words.now (g.S.Source.left c.args.source.now) a.status a.text.items
     (Why c.in-Some-Why.workers, subst (λ (k : Command). IsCommand c.args.words.now k) c.in-Some-Why.field-0-is c.in-Some-Why.ensures.command, held))
     c.answer_to_source-in-Some-Why.ensures.text
+
+pub returns-in-Some-Gc-clause-text : goal.returns-in-Some-Gc-clause-text
+returns-in-Some-Gc-clause-text g c =
+    ok-into c.answer_to_source-in-Some-Gc.result _ _ (λ a held. words-text c.args.words.now (g.S.Source.left c.args.source.now) a.status a.text.items
+    (Gc c.in-Some-Gc.workers, subst (λ (k : Command). IsCommand c.args.words.now k) c.in-Some-Gc.field-0-is c.in-Some-Gc.ensures.command, held))
+    c.answer_to_source-in-Some-Gc.ensures.text
 
 pub returns-in-Some-Verdef-clause-text : goal.returns-in-Some-Verdef-clause-text
 returns-in-Some-Verdef-clause-text g c =

@@ -2,6 +2,7 @@ use Rattle.std.proofs.Common.{◌≡◌, Err, sym, ap, subst, ◌∙◌}
 use Rattle.link_manifest.specs.Manifest.{manifest_of}
 use Rattle.link_rules.specs.Answer.{IsReport}
 use Rattle.link_program.specs.declared.status.Status.{Status}
+use Rattle.link_program.specs.Gc.{IsGcReport}
 use Rattle.link_program.specs.Outcome.{text_read}
 use Rattle.link_program.specs.Verdef.{manifest_ending}
 use Rattle.link_program.specs.Why.{IsWhyReport}
@@ -16,6 +17,10 @@ returns-in-Link g c = rw c.in-Link.is
 pub returns-in-Why : goal.returns-in-Why
 returns-in-Why g c = rw c.in-Why.is
     (ok-into c.why_of_manifest.result _ _ (λ a held. text-of_link IsWhyReport c.args.bytes.now c.in-Ok.manifest a.status a.text.items c.in-Ok.ensures.manifest held) c.why_of_manifest.ensures)
+
+pub returns-in-Gc : goal.returns-in-Gc
+returns-in-Gc g c = rw c.in-Gc.is
+    (ok-into c.sections_of_manifest.result _ _ (λ a held. text-of_link IsGcReport c.args.bytes.now c.in-Ok.manifest a.status a.text.items c.in-Ok.ensures.manifest held) c.sections_of_manifest.ensures)
 
 pub returns-in-Verdef : goal.returns-in-Verdef
 returns-in-Verdef g c = rw c.in-Verdef.is
