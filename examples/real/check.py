@@ -113,7 +113,7 @@ def program_of(words):
     return program
 
 
-def where_built(check_links):
+def where_built(check_links, build=build):
     """What `check_links` answers in a folder of its own, where the files of the links are built."""
     with tempfile.TemporaryDirectory() as folder:
         os.chdir(folder)
