@@ -87,7 +87,7 @@ def run(command, source=None):
 
 def show(step, seconds, held=None):
     """One line."""
-    print(f"{step:32} {seconds:8.3f}" + (f" {held:8.1f}" if held is not None else ""), flush=True)
+    print(f"{step:36} {seconds:8.3f}" + (f" {held:8.1f}" if held is not None else ""), flush=True)
 
 
 def linker_phases(name, written):
@@ -109,7 +109,7 @@ def main():
         words, headers = llvm_words()
         subprocess.run(["cc", f"-I{headers}", "-c", "-x", "c", "-o", "main.o", "-"], input=SOURCE, text=True, check=True)
         words = words_of_compiler(["c++", "main.o", *words])
-        print(f"{'step':32} {'s':>8} {'MB held':>8}")
+        print(f"{'step':36} {'s':>8} {'MB held':>8}")
         seconds, held, manifest = run([str(TOP / "tools" / "manifest"), *words])
         show("tools/manifest", seconds, held)
         pathlib.Path("manifest").write_bytes(manifest)
