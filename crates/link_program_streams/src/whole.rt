@@ -44,7 +44,8 @@ impl From<Failed> for ReadAllError {
 /// All that a source has left, which are at most `limit` bytes. After an error the source has
 /// handed over some of its bytes. No answer takes more than `limit + 1` of them, or more calls
 /// than that: each call but the last gives a byte at least. The source is asked no further once
-/// it failed.
+/// it failed. It stands apart, so that its piece is off the stack once all is read.
+#[inline(never)]
 pub fn read_all<S: Source>(
     alloc: Global,
     source: &mut S,
