@@ -93,7 +93,7 @@ def faults(path, folder):
             continue
         for number, command, due in found:
             count += 1
-            if "wolzhyke" in command and not re.search(r"\./wolzhyke (link|why|check|verdef|bulk)\b", command):
+            if "wolzhyke" in command and not re.search(r"\./wolzhyke (link|why|gc|check|verdef|bulk)\b", command):
                 told.append((number, f"can't run: {command}"))
                 continue
             if "manifest.json" in command:

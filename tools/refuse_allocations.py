@@ -20,10 +20,11 @@ import tempfile
 
 import run_rows
 
-# One of each: a link, an explanation, a check, a made-up link, a version script, every key, each cause of a refusal, each kind of fault, no
+# One of each: a link, an explanation, live sections, a check, a made-up link, a version script, every key, each cause of a refusal, each kind of fault, no
 # command.
 NAMES = """
     members_that_are_asked_for why_members_are_loaded why_a_forced_name_comes_before_a_redirect why_a_version_counts why_in_two_batches
+    gc_reference_into_a_member gc_member_brings_the_group_4
     check_members_are_loaded check_a_loaded_member_is_missing check_groups_are_kept check_a_kept_group_too_many check_start_and_stop_symbols
     check_an_entry_differs check_two_version_scripts check_without_a_claim
     made_up_bulk_10_3 a_script_makes_a_name_local every_key a_version_is_given one_group_is_kept
