@@ -3,3 +3,5 @@ mod OneKey
 mod PassingTables
 mod PassingBatches
 mod Distinct
+mod Rests
+mod Gathering

@@ -8,6 +8,7 @@ pub mod Redirects
 pub mod Libraries
 pub mod LinkOptions
 pub mod Batches
+pub mod Cut
 pub mod Claims
 pub mod Checked
 pub mod Manifest

@@ -116,3 +116,16 @@ IsFaultOf Memory reading = Unit {0}
 abbrev pub Reads : {A : Type 0} → Result A ManifestError → Result A ManifestFault → Type 0
 Reads (Ok value) reading = reading ≡ Ok value
 Reads (Err error) reading = IsFaultOf error reading
+
+-- the answer is what reading gives, unless there is none or memory ran out
+abbrev pub ReadsIfAny : {A : Type 0} → Result (Option A) ManifestError → Result A ManifestFault → Type 0
+ReadsIfAny (Ok None) reading = Unit {0}
+ReadsIfAny (Ok (Some value)) reading = reading ≡ Ok value
+ReadsIfAny (Err error) reading = IsFaultOf error reading
+
+-- each answer is what reading gives of the item at its place, unless memory ran out
+abbrev pub AllRead : {A : Type 0} → (Data → Result A ManifestFault) → Items → List (Result A ManifestError) → Type 0
+AllRead read no_items [] = ⊤
+AllRead read no_items (answer ∷ answers) = ⊥
+AllRead read (item value values) [] = ⊥
+AllRead read (item value values) (answer ∷ answers) = Reads answer (read value) × AllRead read values answers

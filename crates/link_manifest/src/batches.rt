@@ -1,13 +1,15 @@
 //! The batches of a manifest: the one whose files stand at its root, and those that come behind it.
 
-ghost use Rattle.std.specs.Prelude.{◌≡◌, IfErr, IfOk, map, Ok};
+ghost use Rattle.std.specs.Prelude.{◌≡◌, IfErr, IfOk, List, map, Ok, Result};
+ghost use Rattle.link_input.specs.ObjectFile.{ObjectFile};
 ghost use Rattle.link_manifest_json.specs.Tree.{view};
-ghost use Rattle.link_manifest.specs.Batches.{batch_read, batches_read, files_read, inputs_of};
+ghost use Rattle.link_manifest.specs.Batches.{batch_read, batches_read, files_read, inputs_of, objects_read};
 ghost use Rattle.link_manifest.specs.Checked.{batch_checked, batches_checked, few_batches, later_checked};
+ghost use Rattle.link_manifest.specs.declared.fault.ManifestFault.{ManifestFault};
 ghost use Rattle.link_manifest.specs.declared.fault.Step.TheVariants.{Item};
 ghost use Rattle.link_manifest.specs.Reading.{and_read, within, IsFaultOf, Reads};
 
-use crate::contents::UncheckedBatch;
+use crate::contents::{UncheckedBatch, UncheckedObject};
 use crate::fault::{ManifestError, Problem};
 use crate::libraries::{Script, Stub};
 use crate::objects::Object;
@@ -23,11 +25,25 @@ use std::marker::PhantomData;
 /// How many batches may come behind the first one.
 const MAX_LATER: usize = 255;
 
-/// The files that stand at a value: its objects, linker scripts and stub libraries.
-fn files<P: Platform>(alloc: Global, value: &Value<'_>) -> Result<UncheckedBatch, ManifestError>
-    ensures { Reads result (files_read P.HAS_NULL_SYMBOL_ENTRY (view value.now)) }
+/// The objects that stand at a value.
+pub(crate) fn objects_at<P: Platform>(
+    alloc: Global,
+    value: &Value<'_>,
+) -> Result<Seq<UncheckedObject>, ManifestError>
+    ensures { Reads result (objects_read P.HAS_NULL_SYMBOL_ENTRY (view value.now)) }
 {
-    let objects = optional_list::<Object<P>>(alloc, value, "objects")?;
+    optional_list::<Object<P>>(alloc, value, "objects")
+}
+
+/// The files that stand at a value: its objects, which were read already, linker scripts and stub libraries.
+fn files(
+    alloc: Global,
+    value: &Value<'_>,
+    objects: Result<Seq<UncheckedObject>, ManifestError>,
+) -> Result<UncheckedBatch, ManifestError>
+    ensures { (due : Result (List ObjectFile) ManifestFault) → Reads objects due → Reads result (files_read due (view value.now)) }
+{
+    let objects = objects?;
     let scripts = optional_list::<Script>(alloc, value, "scripts")?;
     let stubs = optional_list::<Stub>(alloc, value, "stubs")?;
     Ok(UncheckedBatch {
@@ -49,18 +65,20 @@ impl<P: Platform> Readable for Batch<P> {
 
     fn read(alloc: Global, value: &Value<'_>) -> Result<UncheckedBatch, ManifestError> {
         object_of_keys(alloc, value, &["objects", "scripts", "stubs"])?;
-        files::<P>(alloc, value)
+        files(alloc, value, objects_at::<P>(alloc, value))
     }
 }
 
-/// The batches of a root: the one whose files stand there, and those behind it.
+/// The batches of a root: the one whose files stand there, with the objects that were read already, and those behind it.
 pub(crate) fn batches<P: Platform>(
     alloc: Global,
     value: &Value<'_>,
+    objects: Result<Seq<UncheckedObject>, ManifestError>,
 ) -> Result<(UncheckedBatch, Seq<UncheckedBatch>), ManifestError>
-    ensures { Reads result (batches_read P.HAS_NULL_SYMBOL_ENTRY (view value.now)) }
+    ensures { (due : Result (List ObjectFile) ManifestFault) → Reads objects due
+        → Reads result (batches_read P.HAS_NULL_SYMBOL_ENTRY due (view value.now)) }
 {
-    let first = files::<P>(alloc, value)?;
+    let first = files(alloc, value, objects)?;
     let later = optional_list::<Batch<P>>(alloc, value, "batches")?;
     Ok((first, later))
 }

@@ -10,6 +10,7 @@
 mod batches;
 mod claims;
 mod contents;
+mod cut;
 mod fault;
 mod laws;
 mod libraries;
@@ -30,4 +31,4 @@ pub use laws::{
     read_batches, read_claims, read_later_options, read_libraries, read_object_keys, read_objects,
     read_options, refused_values, refused_wholes, written_faults,
 };
-pub use manifest::{MAX_BYTES, Manifest, PlatformWorld, manifest_leaking_tree, manifest_of};
+pub use manifest::{MAX_BYTES, Manifest, PlatformWorld, manifest_of};

@@ -18,7 +18,7 @@ const FEW_MEMBERS: usize = 2;
 
 /// Why no value was read.
 #[derive(Clone, Copy, Drop)]
-enum Refusal {
+pub(crate) enum Refusal {
     NotJson,
     Memory,
 }
@@ -59,7 +59,11 @@ impl From<Invalid> for Refusal {
 /// The next value of a reader, in which lists and objects may nest `depth` deep.
 #[cycle(read)]
 #[inline(always)]
-fn read<'a>(alloc: Global, reader: &mut Reader<'a>, depth: usize) -> Result<Value<'a>, Refusal>
+pub(crate) fn read<'a>(
+    alloc: Global,
+    reader: &mut Reader<'a>,
+    depth: usize,
+) -> Result<Value<'a>, Refusal>
     ensures ok { IfOk result (λ v. converted of_json (value depth reader.old) ≡ Some (view v, reader.new)) }
     ensures shorter { OnOk result (length reader.new < length reader.old) }
     ensures err { result ≡ Err Refusal.NotJson → converted of_json (value depth reader.old) ≡ None }

@@ -27,9 +27,7 @@ use link_claim::OpenGate;
 use link_core::link_batches;
 use link_core_answer::Linked;
 use link_input::{Inputs, Platform, World};
-use link_manifest::{
-    MAX_BYTES, ManifestError, ManifestFault, PlatformWorld, Problem, manifest_leaking_tree,
-};
+use link_manifest::{MAX_BYTES, ManifestError, ManifestFault, PlatformWorld, Problem, manifest_of};
 use link_manifest_bulk::bulk_manifest;
 use link_names::Seq;
 use link_program_streams::{ReadAllError, Sink, Source, read_all, write_all};
@@ -46,6 +44,17 @@ pub enum Reading {
     Gc { workers: usize },
     Verdef,
     Check,
+}
+
+impl Reading {
+    /// How many workers read the manifest, at most.
+    fn workers(self) -> usize {
+        match self {
+            Reading::Link { workers } | Reading::Why { workers } | Reading::Gc { workers } =>
+                workers,
+            Reading::Verdef | Reading::Check => 1,
+        }
+    }
 }
 
 /// How much is told of a link.
@@ -68,9 +77,6 @@ pub enum Told {
 /// that the rules of a link give, and a link is refused exactly with the first cause that the
 /// manifest holds. Neither the number of workers nor the pieces in which the bytes come and go
 /// change a byte of it. A fault of source or sink is told only where one came.
-///
-/// It is for a program that runs one command and ends: what the reading of a manifest took of memory
-/// is not all given back.
 pub fn run<R: Threads + Sync, S: Source, K: Sink>(
     rt: &R,
     alloc: Global,
@@ -181,7 +187,7 @@ fn answer_to_bytes<R: Threads + Sync>(
     requires in_range { IsReadingInRange reading }
     ensures { IfOk result (λ a. text_read reading bytes.now a.status a.text.items) }
 {
-    match manifest_leaking_tree(alloc, bytes) {
+    match manifest_of(rt, alloc, reading.workers(), bytes) {
         Ok(manifest) => match reading {
             Reading::Link { workers } => {
                 answer_to_manifest(rt, alloc, workers, Told::Report, manifest.world)

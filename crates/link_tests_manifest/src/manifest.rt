@@ -1,13 +1,22 @@
 //! What no clause says: that a manifest is read with ample memory, and that the definitions say what
 //! is meant.
 
-use link_manifest::{Manifest, ManifestError, PlatformWorld, manifest_leaking_tree, manifest_of};
+use link_manifest::{Manifest, ManifestError, PlatformWorld, manifest_of};
 use std::alloc::{AllocError, Global};
 use std::test::Fail;
+use std::thread::Threads;
+
+/// How many workers read a manifest.
+const WORKERS: &[usize] = &[1, 2, 7];
 
 /// The text of the fault of some bytes, or `read`.
-fn answer(alloc: Global, bytes: &[u8]) -> Result<String, AllocError> {
-    match manifest_of(alloc, bytes) {
+fn answer(
+    rt: &(impl Threads + Sync),
+    alloc: Global,
+    workers: usize,
+    bytes: &[u8],
+) -> Result<String, AllocError> {
+    match manifest_of(rt, alloc, workers, bytes) {
         Ok(_) => String::from_str(alloc, "read"),
         Err(ManifestError::At(fault)) => format!(in alloc; "{fault}"),
         Err(ManifestError::Memory) => String::from_str(alloc, "out of memory"),
@@ -24,6 +33,22 @@ const ROWS: &[(&str, &str)] = &[
         r#"{"objects":[{"name":"a"},{"name":"b","sections":2,"symbols":[{"name":"f","place":2}]}]}"#,
         "objects[1]: symbol 1 has no such section",
     ),
+    // Each item of the list is read by itself, and the first fault is told all the same.
+    (
+        r#"{"objects":[{"name":"a"},{"name":1},{"z":0}],"wrap":0}"#,
+        "wrap: expected list",
+    ),
+    (
+        r#"{"objects":[{"name":"a"},{"name":1},{"z":0}]}"#,
+        "objects[1].name: expected text",
+    ),
+    (r#"{"objects":[{"name":"a"},{"name":1},{]}"#, "not JSON"),
+    // Of two lists the last one counts.
+    (r#"{"objects":[{}],"objects":[{"name":"a"}]}"#, "read"),
+    (
+        r#"{"objects":[{"name":"a"}],"objects":[{}]}"#,
+        "objects[0].name: missing",
+    ),
 ];
 
 /// A byte order mark, and bytes that are no UTF-8.
@@ -32,13 +57,15 @@ const NO_JSON: &[&[u8]] = &[b"\xef\xbb\xbf{}", b"{\"objects\":[{\"name\":\"\xff\
 #[test]
 fn each_fault_is_told_where_it_is(rt: HostRuntime) -> Result<(), Fail> {
     let alloc = rt.alloc();
-    for &(manifest, want) in ROWS {
-        let got = answer(alloc, manifest.as_bytes())?;
-        assert!(rt; got.as_str() == want, "{manifest}");
-    }
-    for bytes in NO_JSON {
-        let got = answer(alloc, bytes)?;
-        assert!(rt; got.as_str() == "not JSON");
+    for &workers in WORKERS {
+        for &(manifest, want) in ROWS {
+            let got = answer(&rt, alloc, workers, manifest.as_bytes())?;
+            assert!(rt; got.as_str() == want, "{manifest}");
+        }
+        for bytes in NO_JSON {
+            let got = answer(&rt, alloc, workers, bytes)?;
+            assert!(rt; got.as_str() == "not JSON");
+        }
     }
     Ok(())
 }
@@ -64,11 +91,12 @@ const READ: &[(&str, &str)] = &[
 ];
 
 #[test]
-fn both_calls_read(rt: HostRuntime) {
+fn both_platforms_are_read(rt: HostRuntime) {
     let alloc = rt.alloc();
     for &(manifest, want) in READ {
-        let bytes = manifest.as_bytes();
-        assert_eq!(rt; platform(manifest_of(alloc, bytes)), want);
-        assert_eq!(rt; platform(manifest_leaking_tree(alloc, bytes)), want);
+        for &workers in WORKERS {
+            let read = manifest_of(&rt, alloc, workers, manifest.as_bytes());
+            assert_eq!(rt; platform(read), want);
+        }
     }
 }

@@ -34,6 +34,6 @@ pub returns-in-Err-At : goal.returns-in-Err-At
 returns-in-Err-At g c =
     let bytes = c.args.bytes.now in
     let fault = c.in-Err-At.fault in
-    let fails : manifest_of bytes ≡ Err fault = c.manifest_leaking_tree.ensures.fault fault (c.in-Err-At.is ∙ ap (λ e. Err e) c.in-Err-At.field-0-is) in
+    let fails : manifest_of bytes ≡ Err fault = c.manifest_of.ensures.fault fault (c.in-Err-At.is ∙ ap (λ e. Err e) c.in-Err-At.field-0-is) in
     ok-along c.fault_answer.result _ _ _ (λ a ends line. subst (λ (s : Status). text_read c.args.reading bytes s a.text.items) (sym ends) (fault-read c.args.reading bytes fault a.text.items fails line))
     c.fault_answer.ensures.status (rw c.in-Err-At.field-0-is at c.fault_answer.ensures.text)
