@@ -280,14 +280,16 @@ fn answer_to_world<R: Threads + Sync, P: Platform + Sync>(
     match link_batches(
         rt, alloc, &OpenGate, batches, options, scripts, &Plain, workers,
     ) {
-        Ok(linked) => linked_answer(alloc, told, &linked),
+        Ok(linked) => linked_answer(rt, alloc, workers, told, &linked),
         Err(error) => refusal_answer(alloc, error),
     }
 }
 
 /// The answer to a link that stands.
-fn linked_answer<P: Platform>(
+fn linked_answer<R: Threads + Sync, P: Platform + Sync>(
+    rt: &R,
     alloc: Global,
+    workers: usize,
     told: Told,
     linked: &Linked<P>,
 ) -> Result<Answer, AllocError>
@@ -295,7 +297,7 @@ fn linked_answer<P: Platform>(
     ensures text { IfOk result (λ a. a.text.items
         ≡ told_text told (objects_in (answer.seen linked.now).db.mapping.files.groups) (answer_of (answer.seen linked.now))) }
 {
-    let text = text_of(alloc, told, linked)?;
+    let text = text_of(rt, alloc, workers, told, linked)?;
     Ok(Answer {
         status: Status::Linked,
         text,
@@ -303,8 +305,10 @@ fn linked_answer<P: Platform>(
 }
 
 /// What is told of a link.
-fn text_of<P: Platform>(
+fn text_of<R: Threads + Sync, P: Platform + Sync>(
+    rt: &R,
     alloc: Global,
+    workers: usize,
     told: Told,
     linked: &Linked<P>,
 ) -> Result<Vec<u8>, AllocError>
@@ -312,7 +316,7 @@ fn text_of<P: Platform>(
         ≡ told_text told (objects_in (answer.seen linked.now).db.mapping.files.groups) (answer_of (answer.seen linked.now))) }
 {
     match told {
-        Told::Report => report_text(alloc, linked),
+        Told::Report => report_text(rt, alloc, workers, linked),
         Told::Summary { members } => summary_text(alloc, members, linked),
     }
 }

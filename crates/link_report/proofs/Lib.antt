@@ -1,3 +1,5 @@
 mod Choosing
 mod Counted
+mod Cut
+mod Joined
 mod Walked

@@ -5,7 +5,9 @@ mod counts;
 mod lines;
 mod refusal;
 mod report;
+mod runs;
 mod summary;
+mod symbols;
 mod why;
 
 pub use refusal::refusal_text;
